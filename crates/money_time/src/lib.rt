@@ -1,0 +1,17 @@
+//! Moments, fare days and windows: what a zone's clock shows, and what fares make of it.
+//!
+//! [`Zone::stamp`] gives a moment's fare day, minute and window, as docs/FARES.md says.
+#![tactic(auto)]
+
+mod date;
+mod fault;
+mod stamp;
+mod zone;
+
+pub use date::day_of;
+pub use fault::TimeFault;
+pub use stamp::{Stamp, Window};
+pub use zone::Zone;
+
+#[cfg(test)]
+mod tests;

@@ -1,0 +1,12 @@
+pub mod Touch
+pub mod Verdict
+pub mod Tariff
+pub mod History
+pub mod Travel
+pub mod Leg
+pub mod Journey
+pub mod Charge
+pub mod Balance
+pub mod Judge
+pub mod Statement
+pub mod Standing
