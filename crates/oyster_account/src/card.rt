@@ -30,7 +30,7 @@ impl Card {
     ghost use Rattle.std.specs.Prelude.{◌≡◌, ◌<◌, ◌↔◌, ◌+◌, ◌++◌, ◌∷◌, ℕ, List, [], IsTrue, OnOk};
     ghost use Rattle.oyster_account.specs.declared.reply.Judged.{Judged};
     ghost use Rattle.oyster_account.specs.Tariff.{Terms, terms_of};
-    ghost use Rattle.oyster_account.specs.History.{accepted};
+    ghost use Rattle.oyster_account.specs.History.{accepted, is_accepted};
     ghost use Rattle.oyster_account.specs.Balance.{view};
     ghost use Rattle.oyster_account.specs.Judge.{judge};
     ghost use Rattle.oyster_account.specs.Standing.{StandsFor, HasRoom, touches_in};

@@ -14,7 +14,7 @@ mod verdict;
 pub use card::{Card, HISTORY_LIMIT};
 pub use reply::{CardState, CardView, Judged, Reply};
 pub use tariff::{PRICE_LIMIT, TOP_UP_LIMIT, Tariff};
-pub use touch::{Act, Touch};
+pub use touch::{Act, KIND_ENTER, KIND_ISSUE, KIND_LEAVE, KIND_TOP_UP, Touch};
 pub use travel::Passage;
 pub use verdict::{Acceptance, FIRST_REFUSAL, Refusal};
 

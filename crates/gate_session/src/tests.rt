@@ -1,0 +1,240 @@
+//! Frames worked out by hand, and a feed that is given them in pieces.
+
+use super::*;
+use oyster_account::{Act, CardState, CardView, Reply, Touch};
+use std::alloc::AllocError;
+use std::process::Abort;
+use std::test::Fail;
+
+/// A card's first morning: issued, topped up by 2000 pence, in at station 2, out at station 1, and
+/// then an enquiry.
+const FRAMES: [&[u8]; 5] = [
+    b"\x00\x0f\x04\x00\x07\x00\x00\x00\x01\x00\x00\x00\x01\x67\x7b\x8b\x28",
+    b"\x00\x13\x03\x00\x07\x00\x00\x00\x02\x00\x00\x00\x01\x00\x00\x07\xd0\x67\x7b\x8c\x54",
+    b"\x00\x11\x01\x00\x07\x00\x00\x00\x03\x00\x00\x00\x01\x00\x02\x67\x7b\x8d\x80",
+    b"\x00\x11\x02\x00\x07\x00\x00\x00\x04\x00\x00\x00\x01\x00\x01\x67\x7b\x93\x5c",
+    b"\x00\x05\x05\x00\x00\x00\x01",
+];
+
+/// The touch of gate 7 and this number on card 1.
+fn touch(number: u32, act: Act) -> Request {
+    Request::Touch(Touch {
+        gate: 7,
+        number,
+        card: 1,
+        act,
+    })
+}
+
+/// The requests of `FRAMES`.
+fn requests() -> [Request; 5] {
+    [
+        touch(1, Act::Issue { moment: 1736149800 }),
+        touch(
+            2,
+            Act::TopUp {
+                pence: 2000,
+                moment: 1736150100,
+            },
+        ),
+        touch(
+            3,
+            Act::Enter {
+                station: 2,
+                moment: 1736150400,
+            },
+        ),
+        touch(
+            4,
+            Act::Leave {
+                station: 1,
+                moment: 1736151900,
+            },
+        ),
+        Request::Enquire(1),
+    ]
+}
+
+/// What a fresh feed says of these bytes.
+fn step_of(rt: &HostRuntime, bytes: &[u8]) -> Result<Step, AllocError> {
+    let mut feed = Feed::new(rt.alloc());
+    feed.push(bytes)?;
+    Ok(feed.next())
+}
+
+#[test]
+fn a_beginning_wants_more_and_a_frame_is_its_request(rt: HostRuntime) -> Result<(), Fail> {
+    let requests = requests();
+    for (frame, request) in FRAMES.iter().zip(&requests) {
+        let mut feed = Feed::new(rt.alloc());
+        for byte in frame.iter() {
+            assert_eq!(rt; feed.next(), Step::More);
+            feed.push(&[*byte])?;
+        }
+        assert_eq!(rt; feed.next(), Step::Request(*request));
+        assert_eq!(rt; feed.next(), Step::More);
+        assert_eq!(rt; Request::read(frame), Some((*request, frame.len())));
+        assert_eq!(rt; Request::read_whole(frame), Some(*request));
+        assert_eq!(rt; front_of(frame), Front::Whole(*request, frame.len()));
+    }
+    Ok(())
+}
+
+#[test]
+fn bytes_that_begin_no_request_are_bad(rt: HostRuntime) -> Result<(), Fail> {
+    let cases: [(&[u8], Step); 12] = [
+        (b"", Step::More),
+        (b"\x00", Step::More),
+        (b"\x01", Step::Bad),
+        (b"\x00\x00", Step::Bad),
+        (b"\xff\xff", Step::Bad),
+        (b"\x00\x11", Step::More),
+        (b"\x00\x12", Step::Bad),
+        (b"\x00\x11\x02", Step::More),
+        (b"\x00\x11\x06", Step::Bad),
+        (b"\x00\x11\x04", Step::Bad),
+        (b"\x00\x0f\x05", Step::Bad),
+        (b"\x00\x14\x81", Step::Bad),
+    ];
+    for (bytes, want) in &cases {
+        assert_eq!(rt; step_of(&rt, bytes)?, *want, "{bytes:?}");
+    }
+    Ok(())
+}
+
+#[test]
+fn a_bad_feed_stays_bad(rt: HostRuntime) -> Result<(), Fail> {
+    let mut feed = Feed::new(rt.alloc());
+    feed.push(b"\x00\x11\x06")?;
+    assert_eq!(rt; feed.next(), Step::Bad);
+    feed.push(FRAMES[0])?;
+    assert_eq!(rt; feed.next(), Step::Bad);
+    Ok(())
+}
+
+/// Takes requests while there are any, and answers the place of the next in `want`.
+fn take_all(rt: &impl Abort, feed: &mut Feed, want: &[Request], place: usize) -> usize {
+    let mut place = place;
+    for _ in 0..want.len() {
+        let Step::Request(request) = feed.next() else {
+            return place;
+        };
+        assert_eq!(rt; want.get(place), Some(&request));
+        place = place.saturating_add(1);
+    }
+    place
+}
+
+#[test]
+fn a_stream_cut_anywhere_has_the_same_requests(rt: HostRuntime) -> Result<(), Fail> {
+    let want = requests();
+    let mut stream = Vec::new(rt.alloc());
+    for frame in &FRAMES {
+        stream.extend_from_slice(frame)?;
+    }
+    assert_eq!(rt; stream.len(), 83);
+    assert_eq!(rt; stream_length(&stream), 83);
+    for cut in 0..=83usize {
+        let (first, second) = stream.split_at(cut);
+        let mut feed = Feed::new(rt.alloc());
+        feed.push(first)?;
+        let taken = take_all(&rt, &mut feed, &want, 0);
+        feed.push(second)?;
+        assert_eq!(rt; take_all(&rt, &mut feed, &want, taken), 5, "cut at {cut}");
+        assert_eq!(rt; feed.next(), Step::More);
+    }
+    stream.truncate(40);
+    assert_eq!(rt; stream_length(&stream), 38);
+    Ok(())
+}
+
+#[test]
+fn bytes_behind_a_frame_are_left(rt: HostRuntime) -> Result<(), Fail> {
+    let bytes = b"\x00\x05\x05\x00\x00\x00\x01\x00";
+    assert_eq!(rt; Request::read(bytes), Some((Request::Enquire(1), 7)));
+    assert_eq!(rt; Request::read_whole(bytes), None);
+    assert_eq!(rt; Request::read(b"\x00\x06\x05\x00\x00\x00\x01\x00"), None);
+    Ok(())
+}
+
+#[test]
+fn answers_are_these_bytes(rt: HostRuntime) {
+    let reply = |number, verdict, change, balance| Answer::Reply {
+        gate: 7,
+        number,
+        reply: Reply {
+            verdict,
+            change,
+            balance,
+        },
+    };
+    let holding = |state, balance| Answer::Holding {
+        view: CardView { state, balance },
+        front: 4,
+    };
+    let fault = |fault: FaultCode, gate, number| Answer::Fault {
+        code: fault.code(),
+        gate,
+        number,
+    };
+    let cases: [(Answer, &[u8]); 13] = [
+        (
+            reply(1, 8, 0, 0),
+            b"\x00\x14\x81\x00\x07\x00\x00\x00\x01\x08\x00\x00\x00\x00\x00\x00\x00\x00\x00\x00\x00\x00",
+        ),
+        (
+            reply(2, 7, 2000, 2000),
+            b"\x00\x14\x81\x00\x07\x00\x00\x00\x02\x07\x00\x00\x07\xd0\x00\x00\x00\x00\x00\x00\x07\xd0",
+        ),
+        (
+            reply(3, 1, -900, 1100),
+            b"\x00\x14\x81\x00\x07\x00\x00\x00\x03\x01\xff\xff\xfc\x7c\x00\x00\x00\x00\x00\x00\x04\x4c",
+        ),
+        (
+            reply(4, 4, 550, 1650),
+            b"\x00\x14\x81\x00\x07\x00\x00\x00\x04\x04\x00\x00\x02\x26\x00\x00\x00\x00\x00\x00\x06\x72",
+        ),
+        (
+            reply(5, 1, -900, -710),
+            b"\x00\x14\x81\x00\x07\x00\x00\x00\x05\x01\xff\xff\xfc\x7c\xff\xff\xff\xff\xff\xff\xfd\x3a",
+        ),
+        (
+            holding(CardState::Outside, 1650),
+            b"\x00\x0e\x85\x01\x00\x00\x00\x00\x00\x00\x06\x72\x00\x00\x00\x04",
+        ),
+        (
+            holding(CardState::Vacant, 0),
+            b"\x00\x0e\x85\x00\x00\x00\x00\x00\x00\x00\x00\x00\x00\x00\x00\x04",
+        ),
+        (
+            holding(CardState::Inside, 1100),
+            b"\x00\x0e\x85\x02\x00\x00\x00\x00\x00\x00\x04\x4c\x00\x00\x00\x04",
+        ),
+        (
+            fault(FaultCode::BadFrame, 0, 0),
+            b"\x00\x08\xff\x01\x00\x00\x00\x00\x00\x00",
+        ),
+        (
+            fault(FaultCode::Conflict, 7, 4),
+            b"\x00\x08\xff\x02\x00\x07\x00\x00\x00\x04",
+        ),
+        (
+            fault(FaultCode::Halted, 7, 4),
+            b"\x00\x08\xff\x03\x00\x07\x00\x00\x00\x04",
+        ),
+        (
+            fault(FaultCode::Memory, 7, 4),
+            b"\x00\x08\xff\x04\x00\x07\x00\x00\x00\x04",
+        ),
+        (
+            fault(FaultCode::Full, 7, 3),
+            b"\x00\x08\xff\x05\x00\x07\x00\x00\x00\x03",
+        ),
+    ];
+    for (answer, bytes) in &cases {
+        let mut out = [0; 22];
+        let size = answer.write_into(&mut out);
+        assert_eq!(rt; out.get(..size), Some(*bytes), "{answer:?}");
+        assert_eq!(rt; front_of(bytes), Front::Bad);
+    }
+}
