@@ -1,0 +1,3 @@
+mod Examples
+pub mod CallerLemmas
+pub mod LeftLemmas

@@ -1,0 +1,12 @@
+pub mod Calls
+pub mod Choice
+pub mod Crash
+pub mod File
+pub mod Fuse
+pub mod Honest
+pub mod Kept
+pub mod Memory
+pub mod Moments
+pub mod Outcomes
+pub mod TornLaws
+pub mod Writes

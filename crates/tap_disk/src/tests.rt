@@ -1,0 +1,4 @@
+//! What no clause says of disks.
+mod file;
+mod marked;
+mod memory;
