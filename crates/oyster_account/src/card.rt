@@ -27,7 +27,7 @@ pub struct Card {
 }
 
 impl Card {
-    ghost use Rattle.std.specs.Prelude.{◌≡◌, ◌<◌, ◌↔◌, ◌+◌, ◌++◌, ◌∷◌, ℕ, List, [], IsTrue, OnOk};
+    ghost use Rattle.std.specs.Prelude.{false, ◌≡◌, ◌<◌, ◌↔◌, ◌+◌, ◌++◌, ◌∷◌, ℕ, List, [], IsTrue, OnOk};
     ghost use Rattle.oyster_account.specs.declared.reply.Judged.{Judged};
     ghost use Rattle.oyster_account.specs.Tariff.{Terms, terms_of};
     ghost use Rattle.oyster_account.specs.History.{accepted, is_accepted};
@@ -88,6 +88,10 @@ impl Card {
         ensures view { (history : List Judged) → StandsFor (terms_of tariff.now) touch.now.card history self.now
             → result.1 ≡ view (terms_of tariff.now)
             (accepted touch.now.card (history ++ record { touch = touch.now; reply = result.0 } ∷ [])) }
+
+        // A refused touch leaves what is seen of the card.
+        ensures refused { (history : List Judged) → StandsFor (terms_of tariff.now) touch.now.card history self.now
+            → is_accepted result.0 ≡ false → result.1 ≡ view (terms_of tariff.now) (accepted touch.now.card history) }
     {
         let statement = statement_of(tariff, &self.acts);
         judge_by(tariff, &statement, touch.act)
