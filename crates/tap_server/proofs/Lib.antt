@@ -1,0 +1,6 @@
+mod Examples
+pub mod HexLineLemmas
+pub mod HistoryLemmas
+pub mod LegalLemmas
+pub mod ReplayLemmas
+pub mod RunLemmas

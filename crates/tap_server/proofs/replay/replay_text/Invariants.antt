@@ -1,0 +1,16 @@
+use Rattle.std.proofs.Common.{◌≡◌, ◌*◌, ◌≤◌, vec_len}
+use Rattle.oyster_account.specs.Tariff.{terms_of}
+use Rattle.tap_server.specs.Progress.{IsUnderWay}
+use Rattle.tap_server.specs.Run.{Ran}
+use Rattle.tap_server.proofs.RunLemmas.{Reaches}
+use Rattle.tap_server.proofs.replay.replay_text.Given as goal
+
+-- what was written and what is still written for the bytes to come is what is written for all of them
+abbrev pub invariant-loop : goal.invariant-loop
+invariant-loop g l = record {
+  ran : Ran (g.R.Read.remaining l.initial.reader) (g.R.Read.remaining l.reader) (g.W.Write.contents l.initial.writer) (g.W.Write.contents l.writer)
+      (Reaches (terms_of l.tariff) l.fn.cards l.replay);
+  kept : IsUnderWay (terms_of l.tariff) l.replay;
+  answered : l.replay.answered ≤ 65536 * l.counter;
+  room : vec_len l.piece ≡ 65536;
+}

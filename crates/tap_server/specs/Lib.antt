@@ -1,0 +1,9 @@
+pub mod Line
+pub mod HexLine
+pub mod History
+pub mod Legal
+pub mod Kept
+pub mod Replay
+pub mod Progress
+pub mod Run
+pub mod Arguments
