@@ -1,0 +1,15 @@
+pub mod Keys
+pub mod Tree
+pub mod Causes
+pub mod First
+pub mod Content
+pub mod Repeats
+pub mod Index
+pub mod Zones
+pub mod Fare
+pub mod Fares
+pub mod Limits
+pub mod Faults
+pub mod Dates
+pub mod Lists
+pub mod Table

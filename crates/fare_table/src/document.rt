@@ -1,0 +1,47 @@
+//! The tree of a table's text, in which each key holds what it must.
+ghost use Rattle.std.specs.Prelude.{◌≡◌, ◌≢◌, None, Some, IfOk, IfErr, if◌then◌else◌};
+ghost use Rattle.toml.specs.Parse.{parse_document};
+ghost use Rattle.toml.specs.View.{table_view};
+ghost use Rattle.fare_table.specs.First.{first};
+ghost use Rattle.fare_table.specs.Faults.{key_faults, first_fault};
+
+use crate::checks;
+use crate::fault::TableFault;
+use std::alloc::Global;
+use toml::Table;
+
+/// The tree of a text. `NotToml` comes where it is no TOML document, and else the first fault of a
+/// key.
+pub fn read(alloc: Global, text: &str) -> Result<Table, TableFault>
+    ensures ok { IfOk result (λ tree. parse_document text.now ≡ Some (table_view tree)) }
+    ensures no_fault { IfOk result (λ tree. first (key_faults (table_view tree)) ≡ None) }
+    ensures fault { IfErr result (λ fault. fault ≢ TableFault.Memory
+        → first_fault text.now ≡ Some fault) }
+{
+    let tree = parse(alloc, text)?;
+    match checks::first_fault(&tree) {
+        Some(fault) => Err(fault),
+        None => Ok(tree),
+    }
+}
+
+fn parse(alloc: Global, text: &str) -> Result<Table, TableFault>
+    ensures ok { IfOk result (λ tree. parse_document text.now ≡ Some (table_view tree)) }
+    ensures fault { IfErr result (λ fault. fault ≢ TableFault.Memory
+        → (fault ≡ TableFault.NotToml) × (parse_document text.now ≡ None)) }
+{
+    match toml::table_from_str(alloc, text) {
+        Ok(tree) => Ok(tree),
+        Err(error) => Err(fault_of(error.is_memory())),
+    }
+}
+
+fn fault_of(is_memory: bool) -> TableFault
+    ensures { result ≡ (if is_memory then TableFault.Memory else TableFault.NotToml) }
+{
+    if is_memory {
+        TableFault::Memory
+    } else {
+        TableFault::NotToml
+    }
+}

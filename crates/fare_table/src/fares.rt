@@ -1,0 +1,219 @@
+//! A fare table that was read, and what it is asked for.
+ghost use Rattle.std.specs.Prelude.{◌≡◌, ◌≢◌, ◌≤◌, false, length, option_copied, None, Some, Ok};
+ghost use Rattle.std.specs.Prelude.{IsSome, IfOk, IfErr};
+ghost use Rattle.fare_table.specs.Faults.{first_fault};
+ghost use Rattle.fare_table.specs.Limits.{is_maximum_low};
+
+use crate::fare::{self, Fare};
+use crate::fault::TableFault;
+use crate::interchanges::Interchanges;
+use crate::key::Key;
+use crate::lists::{self, Lists};
+use crate::pairs::Pairs;
+use crate::rates::Rates;
+use crate::rows::{Cap, Single};
+use crate::station::{Station, Zones};
+use crate::stations::Stations;
+use crate::{document, times, tree};
+use money_time::{Stamp, Window, Zone};
+use sha2::{Digest, Sha256};
+use std::alloc::{AllocError, Global};
+
+/// A fare table that was read.
+#[derive(Drop)]
+pub struct Fares {
+    zone: Zone,
+    rates: Rates,
+    holidays: Vec<i32>,
+    stations: Stations,
+    singles: Vec<Single>,
+    pairs: Pairs,
+    caps: Vec<Cap>,
+    interchanges: Interchanges,
+    digest: [u8; 32],
+    ghost within_maximum: { is_maximum_low rates singles.items pairs ≡ false },
+}
+
+impl Fares {
+    ghost use Rattle.fare_table.specs.Fares.{content_of, content_from, digest_of};
+    ghost use Rattle.fare_table.specs.Table.{IsTableOf};
+    ghost use Rattle.fare_table.specs.Fare.{station_at, zones_at, fare_of, maximum_of, leg_minutes_of, interchange_of, stamp_of};
+
+    /// Reads a table's text, as docs/TABLE.md says.
+    ///
+    /// It accepts exactly the valid tables, want of memory aside. A fault is of the first cause in
+    /// their order that holds, at its first place. `Memory` comes where a growth was refused, before
+    /// the causes that are looked for later. It allocates what the table keeps and the text's tree.
+    pub fn read(alloc: Global, text: &str) -> Result<Fares, TableFault>
+        ensures ok { IfOk result (IsTableOf text.now) }
+        ensures no_fault { IfOk result (λ _. first_fault text.now ≡ None) }
+        ensures fault { IfErr result (λ fault. fault ≢ TableFault.Memory
+            → first_fault text.now ≡ Some fault) }
+    {
+        let tree = document::read(alloc, text)?;
+        let lists = lists::read(alloc, &tree)?;
+        let rates = Rates::of(&tree);
+        if let Some(fault) = lists.first_fault(&rates) {
+            return Err(fault);
+        }
+        let zone = times::zone_of(tree::text_at(&tree, Key::Zone))?;
+        let holidays = times::days_of(alloc, tree::rows_at(&tree, Key::Holidays))?;
+        let digest = Sha256::digest(text.as_bytes());
+        Ok(Fares::of(zone, rates, holidays, lists, digest))
+    }
+
+    // The table of these parts.
+    fn of(zone: Zone, rates: Rates, holidays: Vec<i32>, lists: Lists, digest: [u8; 32]) -> Fares
+        requires { is_maximum_low rates lists.singles.items lists.pairs ≡ false }
+        ensures content { content_of result ≡ content_from zone rates holidays.items lists }
+        ensures digest { digest_of result ≡ digest }
+    {
+        let Lists {
+            stations,
+            singles,
+            pairs,
+            caps,
+            interchanges,
+        } = lists;
+        Fares {
+            zone,
+            rates,
+            holidays,
+            stations,
+            singles,
+            pairs,
+            caps,
+            interchanges,
+            digest,
+        }
+    }
+
+    /// The station of this number.
+    pub fn station(&self, id: u16) -> Option<&Station>
+        ensures { option_copied result ≡ station_at (content_of self.now) id }
+    {
+        self.stations.find(id)
+    }
+
+    /// The fare of a journey that starts at one station in a window and ends at the other, both of
+    /// which [`Fares::station`] finds.
+    pub fn fare(&self, from: u16, to: u16, window: Window) -> Fare
+        requires from_known { IsSome (station_at (content_of self.now) from) }
+        requires to_known { IsSome (station_at (content_of self.now) to) }
+        ensures value { result ≡ fare_of (content_of self.now) from to window }
+        ensures bound { result.pence ≤ maximum_of (content_of self.now) window }
+    {
+        self.find_fare(from, to, window)
+    }
+
+    fn find_fare(&self, from: u16, to: u16, window: Window) -> Fare
+        requires from_known { IsSome (station_at (content_of self.now) from) }
+        requires to_known { IsSome (station_at (content_of self.now) to) }
+        ensures { result ≡ fare_of (content_of self.now) from to window }
+    {
+        let origin = self.zones(from);
+        let destination = self.zones(to);
+        let off_peak = fare::is_off_peak(self.rates.evening_rule, origin, destination, window);
+        match self.pairs.find(from, to) {
+            Some(pair) => fare::pair_fare(off_peak, *pair),
+            None => fare::cheapest(self.singles.as_slice(), off_peak, origin, destination),
+        }
+    }
+
+    // The zones of a station that is known.
+    fn zones(&self, id: u16) -> Zones
+        requires { IsSome (station_at (content_of self.now) id) }
+        ensures { result ≡ zones_at (content_of self.now) id }
+    {
+        let Some(station) = self.station(id) else {
+            unreachable!()
+        };
+        station.zones
+    }
+
+    /// The minutes that a leg between two stations may take: those of their named pair, and where
+    /// it has none, or there is none, those of the table.
+    pub fn leg_minutes(&self, from: u16, to: u16) -> u32
+        requires from_known { IsSome (station_at (content_of self.now) from) }
+        requires to_known { IsSome (station_at (content_of self.now) to) }
+        ensures { result ≡ leg_minutes_of (content_of self.now) from to }
+    {
+        match self.pairs.find(from, to) {
+            Some(pair) => pair.minutes.unwrap_or(self.rates.leg_minutes),
+            None => self.rates.leg_minutes,
+        }
+    }
+
+    /// The maximum charge in a window, in pence.
+    pub fn maximum(&self, window: Window) -> u32
+        ensures { result ≡ maximum_of (content_of self.now) window }
+    {
+        match window {
+            Window::Off => self.rates.maximum_off_peak,
+            Window::Early | Window::Evening => self.rates.maximum_peak,
+        }
+    }
+
+    /// The minutes that an interchange between two stations may take, the same in both directions,
+    /// where the table lists one.
+    pub fn interchange(&self, from: u16, to: u16) -> Option<u32>
+        ensures { result ≡ interchange_of (content_of self.now) from to }
+    {
+        match self.interchanges.find(from, to) {
+            Some(interchange) => Some(interchange.minutes),
+            None => None,
+        }
+    }
+
+    /// The daily caps, in the table's order.
+    pub fn caps(&self) -> &[Cap]
+        ensures { result.now ≡ (content_of self.now).caps }
+    {
+        self.caps.as_slice()
+    }
+
+    /// The balance in pence that a touch in needs.
+    pub fn entry_minimum(&self) -> u32
+        ensures { result ≡ (content_of self.now).rates.entry_minimum }
+    {
+        self.rates.entry_minimum
+    }
+
+    /// The highest balance in pence that a top-up may make.
+    pub fn balance_limit(&self) -> u32
+        ensures { result ≡ (content_of self.now).rates.balance_limit }
+    {
+        self.rates.balance_limit
+    }
+
+    /// How many stations the table has.
+    pub fn station_count(&self) -> usize
+        ensures { result ≡ length (content_of self.now).stations }
+    {
+        self.stations.len()
+    }
+
+    /// How many single fares the table has.
+    pub fn single_count(&self) -> usize
+        ensures { result ≡ length (content_of self.now).singles }
+    {
+        self.singles.as_slice().len()
+    }
+
+    /// The SHA-256 digest of the table's text.
+    pub fn digest(&self) -> [u8; 32]
+        ensures { result ≡ digest_of self.now }
+    {
+        self.digest
+    }
+
+    /// The stamp of a moment, by the table's zone and holidays. It never fails: it takes no memory.
+    pub fn stamp(&self, moment: u32) -> Result<Stamp, AllocError>
+        ensures { result ≡ Ok (stamp_of (content_of self.now) moment) }
+    {
+        match self.zone.stamp(moment, self.holidays.as_slice()) {
+            Ok(stamp) => Ok(stamp),
+            Err(_) => Err(AllocError),
+        }
+    }
+}
