@@ -1,6 +1,7 @@
--- The fares of a small table, and the first faults of small trees, by computing.
-use Rattle.std.proofs.Common.{◌≡◌, ℕ, pos, true, false, List, [], ◌∷◌, Some, None, refl}
+-- The fares of a small table, the first faults of small trees, and printed lines, by computing.
+use Rattle.std.proofs.Common.{◌≡◌, ℕ, pos, true, false, List, [], ◌∷◌, Some, None, refl, map}
 use Rattle.std.specs.Prelude.{codes}
+use Rattle.std.specs.Fmt.{digits}
 use Rattle.jiff_tz.specs.declared.timezone.TimeZone.{TimeZone}
 use Rattle.money_time.specs.declared.stamp.Window.TheVariants.{Early, Evening}
 use Rattle.toml.specs.Data.{Data, string, integer, boolean, array, table, Items, no_items, item, Members, no_members, member}
@@ -8,8 +9,10 @@ use Rattle.fare_table.specs.First.{first}
 use Rattle.fare_table.specs.Fare.{Content, fare_of}
 use Rattle.fare_table.specs.Content.{single_of}
 use Rattle.fare_table.specs.Faults.{faults}
+use Rattle.fare_table.specs.Keys.{list_of, keys_of}
+use Rattle.fare_table.specs.Texts.{printed_fault}
 use Rattle.fare_table.specs.declared.key.Key.TheVariants as key
-use Rattle.fare_table.specs.declared.fault.TableFault.TheVariants.{Missing, WrongType, Range, Twice, MissingSingle, MaximumTooLow}
+use Rattle.fare_table.specs.declared.fault.TableFault.TheVariants.{Missing, WrongType, Range, Twice, UnknownStation, MissingSingle, MaximumTooLow, BadDate}
 use Rattle.fare_table.specs.declared.rows.Single.{Single}
 use Rattle.fare_table.specs.declared.station.Station.{Station}
 use Rattle.fare_table.specs.declared.station.Zones.{Zones}
@@ -117,3 +120,48 @@ single_missing = refl
 maximum_too_low : first (faults (top 309 (item (station_row 3 3) no_items) (item (single_row 3 3 400 310) no_items))) ≡ Some MaximumTooLow
 unfolding single_of
 maximum_too_low = refl
+
+-- each key of a list's rows is of that list
+keys_of_stations : map list_of (keys_of key.Station) ≡ map (λ _. Some key.Station) (keys_of key.Station)
+keys_of_stations = refl
+
+keys_of_singles : map list_of (keys_of key.Single) ≡ map (λ _. Some key.Single) (keys_of key.Single)
+keys_of_singles = refl
+
+keys_of_pairs : map list_of (keys_of key.Pair) ≡ map (λ _. Some key.Pair) (keys_of key.Pair)
+keys_of_pairs = refl
+
+keys_of_caps : map list_of (keys_of key.Cap) ≡ map (λ _. Some key.Cap) (keys_of key.Cap)
+keys_of_caps = refl
+
+keys_of_interchanges : map list_of (keys_of key.Interchange) ≡ map (λ _. Some key.Interchange) (keys_of key.Interchange)
+keys_of_interchanges = refl
+
+-- printed lines
+key_of_the_table : printed_fault (Missing key.Zone 0) ≡ codes "fault table 3 Missing zone 0"
+unfolding digits
+key_of_the_table = refl
+
+key_of_a_row : printed_fault (Range key.StationId 3) ≡ codes "fault table 5 Range station.id 3"
+unfolding digits
+key_of_a_row = refl
+
+row_of_two_digits : printed_fault (WrongType key.Holidays 12) ≡ codes "fault table 4 WrongType holidays 12"
+unfolding digits
+row_of_two_digits = refl
+
+repeated_station : printed_fault (Twice key.Station 6) ≡ codes "fault table 6 Twice station 6"
+unfolding digits
+repeated_station = refl
+
+station_of_five_digits : printed_fault (UnknownStation 65_535) ≡ codes "fault table 7 UnknownStation 65535"
+unfolding digits
+station_of_five_digits = refl
+
+two_zones : printed_fault (MissingSingle 1 3) ≡ codes "fault table 8 MissingSingle 1 3"
+unfolding digits
+two_zones = refl
+
+bad_date : printed_fault (BadDate 1) ≡ codes "fault table 11 BadDate 1"
+unfolding digits
+bad_date = refl

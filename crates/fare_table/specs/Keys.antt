@@ -1,6 +1,6 @@
 -- The keys of a fare table: the text of each, what it holds, and whether it must be there
 -- (docs/TABLE.md, "Keys"; the keys and their ranges are this project's choice).
-use Rattle.std.specs.Prelude.{codes, ℕ, Bool, true, false, List, [], ◌∷◌}
+use Rattle.std.specs.Prelude.{codes, ℕ, Bool, true, false, List, [], ◌∷◌, Option, Some, None}
 use Rattle.fare_table.specs.declared.key.Key.{Key}
 use Rattle.fare_table.specs.declared.key.Key.TheVariants as key
 use Rattle.fare_table.specs.declared.key.Shape.{Shape}
@@ -102,3 +102,28 @@ keys_of key.Pair =
 keys_of key.Cap = key.CapLo ∷ key.CapHi ∷ key.CapKind ∷ key.CapPrice ∷ []
 keys_of key.Interchange = key.InterchangeA ∷ key.InterchangeB ∷ key.InterchangeMinutes ∷ []
 keys_of _ = []
+
+-- the list whose rows have a key; a key of the table itself has none
+abbrev pub list_of : Key → Option Key
+list_of key.StationId = Some key.Station
+list_of key.StationName = Some key.Station
+list_of key.StationZones = Some key.Station
+list_of key.SingleLow = Some key.Single
+list_of key.SingleHigh = Some key.Single
+list_of key.SinglePeak = Some key.Single
+list_of key.SingleOffPeak = Some key.Single
+list_of key.PairFrom = Some key.Pair
+list_of key.PairTo = Some key.Pair
+list_of key.PairLo = Some key.Pair
+list_of key.PairHi = Some key.Pair
+list_of key.PairPeak = Some key.Pair
+list_of key.PairOffPeak = Some key.Pair
+list_of key.PairMinutes = Some key.Pair
+list_of key.CapLo = Some key.Cap
+list_of key.CapHi = Some key.Cap
+list_of key.CapKind = Some key.Cap
+list_of key.CapPrice = Some key.Cap
+list_of key.InterchangeA = Some key.Interchange
+list_of key.InterchangeB = Some key.Interchange
+list_of key.InterchangeMinutes = Some key.Interchange
+list_of _ = None

@@ -1,4 +1,5 @@
 pub mod Keys
+pub mod Texts
 pub mod Tree
 pub mod Causes
 pub mod First

@@ -1,50 +1,41 @@
 //! Why a text is no fare table.
-ghost use Rattle.std.specs.Prelude.{◌≡◌};
+ghost use Rattle.std.specs.Prelude.{◌≡◌, Some};
+ghost use Rattle.fare_table.specs.Texts.{printed_fault};
 ghost use Rattle.fare_table.specs.declared.fault.TableFault.TheVariants.{Memory};
 
 use crate::key::Key;
 use std::alloc::{AllocError, AllocFailed};
-use thiserror::Error;
+use std::error::Error;
+use std::fmt;
 
 /// Why a text is no fare table, in the order in which the causes are looked for.
 ///
 /// Each cause is looked for over the whole table before the next. Rows count from 1, and a key of
 /// the table itself has row 0.
-#[derive(Clone, Copy, Debug, PartialEq, Eq, Error)]
+#[derive(Clone, Copy, Debug, PartialEq, Eq)]
 pub enum TableFault {
     /// Memory was refused. It may come before a cause that is looked for later.
-    #[error("fault table 1 Memory")]
     Memory,
     /// The text is no TOML document.
-    #[error("fault table 2 NotToml")]
     NotToml,
     /// A key that must be there is absent.
-    #[error("fault table 3 Missing {0} {1}")]
     Missing(Key, usize),
     /// A value is of the wrong type, or an element of a list or of `zones` is.
-    #[error("fault table 4 WrongType {0} {1}")]
     WrongType(Key, usize),
     /// A value is out of its range, a list has too few or too many rows, or two keys of a row are
     /// in the wrong order.
-    #[error("fault table 5 Range {0} {1}")]
     Range(Key, usize),
     /// A row of this list names what an earlier row of it names.
-    #[error("fault table 6 Twice {0} {1}")]
     Twice(Key, usize),
     /// A pair or an interchange names this station, and the table has no such station.
-    #[error("fault table 7 UnknownStation {0}")]
     UnknownStation(u16),
     /// Stations have these two zones, the lower one first, and no single fare has them.
-    #[error("fault table 8 MissingSingle {0} {1}")]
     MissingSingle(u8, u8),
     /// The peak maximum is below the off-peak one, or a price is above its maximum.
-    #[error("fault table 9 MaximumTooLow")]
     MaximumTooLow,
     /// The zone's text is no POSIX TZ rule.
-    #[error("fault table 10 BadZone")]
     BadZone,
     /// The holiday in this row is no date of the form YYYY-MM-DD.
-    #[error("fault table 11 BadDate {0}")]
     BadDate(usize),
 }
 
@@ -57,6 +48,31 @@ pub enum Cause {
     WrongType,
     /// The value is of the right type, and out of its range.
     Range,
+}
+
+impl Error for TableFault {}
+
+/// Prints the fault's line, without its line feed.
+impl fmt::Display for TableFault {
+    ghost output = { λ fault. Some (printed_fault fault) };
+
+    fn fmt<W: fmt::Write>(&self, f: &mut fmt::Formatter<W>) -> fmt::Result {
+        match *self {
+            TableFault::Memory => f.write_str("fault table 1 Memory"),
+            TableFault::NotToml => f.write_str("fault table 2 NotToml"),
+            TableFault::Missing(key, row) => write!(f, "fault table 3 Missing {key} {row}"),
+            TableFault::WrongType(key, row) => write!(f, "fault table 4 WrongType {key} {row}"),
+            TableFault::Range(key, row) => write!(f, "fault table 5 Range {key} {row}"),
+            TableFault::Twice(key, row) => write!(f, "fault table 6 Twice {key} {row}"),
+            TableFault::UnknownStation(id) => write!(f, "fault table 7 UnknownStation {id}"),
+            TableFault::MissingSingle(low, high) => {
+                write!(f, "fault table 8 MissingSingle {low} {high}")
+            }
+            TableFault::MaximumTooLow => f.write_str("fault table 9 MaximumTooLow"),
+            TableFault::BadZone => f.write_str("fault table 10 BadZone"),
+            TableFault::BadDate(row) => write!(f, "fault table 11 BadDate {row}"),
+        }
+    }
 }
 
 impl From<AllocError> for TableFault {

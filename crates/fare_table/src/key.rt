@@ -1,6 +1,7 @@
 //! The keys of a fare table: their texts, and what each of them holds.
-ghost use Rattle.std.specs.Prelude.{◌≡◌};
-ghost use Rattle.fare_table.specs.Keys.{text_of, shape_of, is_required, keys_of};
+ghost use Rattle.std.specs.Prelude.{◌≡◌, Some};
+ghost use Rattle.fare_table.specs.Keys.{text_of, shape_of, is_required, keys_of, list_of};
+ghost use Rattle.fare_table.specs.Texts.{printed_key};
 
 use std::fmt;
 
@@ -278,28 +279,39 @@ impl Key {
         }
     }
 
-    // What is printed before the key's own text: the name of the list whose rows have it.
-    fn list_text(self) -> &'static str {
+    // The list whose rows have the key. A key of the table itself has none.
+    fn list(self) -> Option<Key>
+        ensures { result ≡ list_of self }
+    {
         match self {
-            Key::StationId | Key::StationName | Key::StationZones => "station.",
-            Key::SingleLow | Key::SingleHigh | Key::SinglePeak | Key::SingleOffPeak => "single.",
+            Key::StationId | Key::StationName | Key::StationZones => Some(Key::Station),
+            Key::SingleLow | Key::SingleHigh | Key::SinglePeak | Key::SingleOffPeak => {
+                Some(Key::Single)
+            }
             Key::PairFrom
             | Key::PairTo
             | Key::PairLo
             | Key::PairHi
             | Key::PairPeak
             | Key::PairOffPeak
-            | Key::PairMinutes => "pair.",
-            Key::CapLo | Key::CapHi | Key::CapKind | Key::CapPrice => "cap.",
-            Key::InterchangeA | Key::InterchangeB | Key::InterchangeMinutes => "interchange.",
-            _ => "",
+            | Key::PairMinutes => Some(Key::Pair),
+            Key::CapLo | Key::CapHi | Key::CapKind | Key::CapPrice => Some(Key::Cap),
+            Key::InterchangeA | Key::InterchangeB | Key::InterchangeMinutes => {
+                Some(Key::Interchange)
+            }
+            _ => None,
         }
     }
 }
 
 impl fmt::Display for Key {
+    ghost output = { λ key. Some (printed_key key) };
+
     fn fmt<W: fmt::Write>(&self, f: &mut fmt::Formatter<W>) -> fmt::Result {
-        f.write_str(self.list_text())?;
+        if let Some(list) = self.list() {
+            f.write_str(list.text())?;
+            f.write_str(".")?;
+        }
         f.write_str(self.text())
     }
 }
