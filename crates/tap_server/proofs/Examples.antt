@@ -1,11 +1,15 @@
--- Worked examples, computed by the definitions: the lines of docs/PROTOCOL.md, "Replay".
-use Rattle.std.proofs.Common.{◌≡◌, refl, ℕ, List, [], ◌∷◌, ◌++◌, Some, None, codes, nat_lt, nat_le, ◌&&◌}
+-- Worked examples, computed by the definitions: the lines of docs/PROTOCOL.md, "Replay", and of docs/OPERATING.md, "check".
+use Rattle.std.proofs.Common.{◌≡◌, refl, ℕ, List, [], ◌∷◌, ◌++◌, Some, None, false, codes, nat_lt, nat_le, ◌&&◌}
 use Rattle.hex.proofs.OnLiterals.{hex_on_literals}
 use Rattle.oyster_account.specs.Tariff.{Terms}
 use Rattle.tap_server.specs.Line.{lines_of}
 use Rattle.tap_server.specs.HexLine.{request_of, request_of_line, answer_line}
 use Rattle.tap_server.specs.History.{first_under, is_same_touch, view_after, answer, after}
 use Rattle.tap_server.specs.Replay.{Output, output_of_lines, output_of}
+use Rattle.std.specs.Fmt.{digits}
+use Rattle.fare_table.specs.declared.key.Key.TheVariants as key
+use Rattle.fare_table.specs.declared.fault.TableFault.TheVariants.{Range}
+use Rattle.tap_server.specs.Check.{count_lines, refused_table}
 
 -- the terms of the example tariff, as far as the examples ask: stations 1 to 4, Birch to Alder costs 350
 abbrev terms : Terms
@@ -86,3 +90,13 @@ empty_line : output_of terms 10 (line (codes "00050500000001") ++ line [] ++ lin
     ≡ record { text = line (codes "000e8500000000000000000000000000") ++ line (codes "0008ff01000000000000"); bad = Some 2 }
 unfolding on_literals
 empty_line = refl
+
+-- the lines of a valid table, by the first two bytes of its digest
+valid_table : count_lines 5 6 3 (0x17 ∷ 0x08 ∷ []) ≡ codes "stations 5\nsingles 6\ncaps 3\ndigest 1708\n"
+unfolding on_literals digits
+valid_table = refl
+
+-- the line of a fault
+table_with_a_fault : refused_table (Range key.StationId 3) ≡ record { text = codes "fault table 5 Range station.id 3\n"; valid = false }
+unfolding digits
+table_with_a_fault = refl

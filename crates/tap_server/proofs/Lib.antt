@@ -4,3 +4,5 @@ pub mod HistoryLemmas
 pub mod LegalLemmas
 pub mod ReplayLemmas
 pub mod RunLemmas
+pub mod CheckLemmas
+pub mod StreamLemmas

@@ -7,3 +7,4 @@ pub mod Replay
 pub mod Progress
 pub mod Run
 pub mod Arguments
+pub mod Check

@@ -34,3 +34,16 @@ pub record Ran (unread left : Option (List ℕ)) (before after : Option (List �
   pub consumed : Consumes unread left bytes
   pub appended : Appends before after text
   pub says : Says bytes text
+
+-- a fault of reading: a growth was refused or a read failed, and nothing was written yet
+abbrev pub IsReadFault : RunFault → Type 0
+IsReadFault Memory = Unit {0}
+IsReadFault Read = Unit {0}
+IsReadFault Write = ⊥
+IsReadFault (BadLine number) = ⊥
+
+-- between two moments a reader gave some bytes, and then this fault of reading came
+pub record HasLeftUnread (unread left : Option (List ℕ)) (fault : RunFault) : Type 0 where
+  pub bytes : List ℕ
+  pub consumed : Consumes unread left bytes
+  pub cause : IsReadFault fault

@@ -12,12 +12,22 @@ pub const CARDS_LIMIT: u32 = 100_000;
 
 /// What the program is asked to do.
 #[derive(Clone, Copy, Debug, PartialEq, Eq)]
-pub enum Arguments {
+pub enum Arguments<'a> {
     /// Answer the request lines of standard input, with this many cards.
     Replay { cards: u32 },
+    /// Check the fare table in the file of this path.
+    Check { table: &'a str },
 }
 
 const ABOUT: &str = "Answers the touches of Oyster pay as you go";
+
+/// The text of Rust's `clap` for this.
+const NOT_UTF8: &str = "invalid UTF-8 was detected in one or more arguments";
+
+const CHECK_ABOUT: &str = "Says whether a file is a valid fare table, or what is wrong with it";
+
+const CHECK_EXAMPLE: &str = "Example:
+  tap_server check --table fares.toml";
 
 const REPLAY_ABOUT: &str =
     "Answers each request line of standard input by a line on standard output";
@@ -27,9 +37,9 @@ const REPLAY_EXAMPLE: &str = "Example, an issue of card 1:
 
 /// What the words of a command line ask for; the program's own name is the first of them.
 ///
-/// The error says that help was asked for, or what is wrong: no command or an unknown one, or no
-/// number of cards from 1 to `CARDS_LIMIT`. Its text and its status are `clap`'s.
-pub fn arguments_of<'a>(alloc: Global, words: &'a [&'a str]) -> Result<Arguments, Error>
+/// The error says that help was asked for, or what is wrong: no command or an unknown one, no
+/// number of cards from 1 to `CARDS_LIMIT`, or no file. Its text and its status are `clap`'s.
+pub fn arguments_of<'a>(alloc: Global, words: &'a [&'a str]) -> Result<Arguments<'a>, Error>
     ensures { IfOk result IsAllowed }
 {
     let mut command = command(alloc)?;
@@ -40,12 +50,29 @@ pub fn arguments_of<'a>(alloc: Global, words: &'a [&'a str]) -> Result<Arguments
     }
 }
 
+/// The refusal of a command line with a word that isn't UTF-8.
+pub fn refuse_bytes(alloc: Global) -> Result<Error, Error> {
+    Ok(command(alloc)?.error(ErrorKind::InvalidValue, NOT_UTF8)?)
+}
+
 /// What the matches ask for.
-fn asked(matches: &ArgMatches<'_>) -> Option<Arguments>
+fn asked<'a>(matches: &ArgMatches<'a>) -> Option<Arguments<'a>>
     ensures { IfSome result IsAllowed }
 {
-    let (_, inner) = matches.subcommand()?;
-    let cards = inner.get_one::<u32>("cards")?;
+    match matches.subcommand()? {
+        ("replay", inner) => replay_asked(inner),
+        (_, inner) => {
+            let table = inner.get_str("table")?;
+            Some(Arguments::Check { table })
+        }
+    }
+}
+
+/// The replay that the matches of its command ask for.
+fn replay_asked<'a>(matches: &ArgMatches<'a>) -> Option<Arguments<'a>>
+    ensures { IfSome result IsAllowed }
+{
+    let cards = matches.get_one::<u32>("cards")?;
     if 0 < cards && cards <= CARDS_LIMIT {
         Some(Arguments::Replay { cards })
     } else {
@@ -55,6 +82,17 @@ fn asked(matches: &ArgMatches<'_>) -> Option<Arguments>
 
 /// The command line as `clap` reads it.
 fn command<'a>(alloc: Global) -> Result<Command<'a>, Error> {
+    Ok(
+        Command::new(alloc, "tap_server")
+            .about(ABOUT)
+            .subcommand_required(true)
+            .subcommand(replay_command(alloc)?)?
+            .subcommand(check_command(alloc)?)?,
+    )
+}
+
+/// The command `replay`.
+fn replay_command<'a>(alloc: Global) -> Result<Command<'a>, Error> {
     let cards = Arg::new(alloc, "cards")
         .long("cards")
         .value_name("N")
@@ -62,14 +100,26 @@ fn command<'a>(alloc: Global) -> Result<Command<'a>, Error> {
         .required(true)
         .action(ArgAction::Set)
         .value_parser(clap::value_parser!(u32).range(1..=i64::from(CARDS_LIMIT)));
-    let replay = Command::new(alloc, "replay")
-        .about(REPLAY_ABOUT)
-        .after_help(REPLAY_EXAMPLE)
-        .arg(cards)?;
     Ok(
-        Command::new(alloc, "tap_server")
-            .about(ABOUT)
-            .subcommand_required(true)
-            .subcommand(replay)?,
+        Command::new(alloc, "replay")
+            .about(REPLAY_ABOUT)
+            .after_help(REPLAY_EXAMPLE)
+            .arg(cards)?,
+    )
+}
+
+/// The command `check`.
+fn check_command<'a>(alloc: Global) -> Result<Command<'a>, Error> {
+    let table = Arg::new(alloc, "table")
+        .long("table")
+        .value_name("FILE")
+        .help("The file of the fare table, in TOML")
+        .required(true)
+        .action(ArgAction::Set);
+    Ok(
+        Command::new(alloc, "check")
+            .about(CHECK_ABOUT)
+            .after_help(CHECK_EXAMPLE)
+            .arg(table)?,
     )
 }

@@ -1,15 +1,18 @@
-//! Why a run of the program ended before its input did.
+//! Why a command didn't do what it was asked for.
 
 ghost use Rattle.std.specs.Prelude.{◌≡◌};
 ghost use Rattle.tap_server.specs.declared.fault.RunFault.TheVariants.{Memory};
+ghost use Rattle.tap_server.specs.declared.fault.CommandFault.TheVariants.{Run};
 
+use clap::Error as LineError;
+use clap::error::ErrorKind;
 use std::alloc::{AllocError, AllocFailed};
 use thiserror::Error;
 
-/// Why a replay ended before its input did, in the line that standard error gets of it.
+/// Why a run over some input ended early, in the line that standard error gets of it.
 #[derive(Clone, Copy, Debug, PartialEq, Eq, Error)]
 pub enum RunFault {
-    /// There was no memory for the cards, a touch, a line or an answer.
+    /// There was no memory for the cards, a touch, a line or an answer, or for a table.
     #[error("fault run 1 Memory")]
     Memory,
     /// A read failed, or as many reads as were allowed were made without an end.
@@ -36,5 +39,46 @@ impl<T: Drop> From<AllocFailed<T>> for RunFault {
 
     fn from(_error: AllocFailed<T>) -> RunFault {
         RunFault::Memory
+    }
+}
+
+/// Why a command wasn't done.
+#[derive(Debug, Drop, Error)]
+pub enum CommandFault {
+    /// The command line asks for help, or for nothing that the program does.
+    #[error("{0}")]
+    Line(LineError),
+    /// The file of the command line can't be opened, or not be read to its end.
+    #[error("fault file")]
+    File,
+    /// The run over the input ended early.
+    #[error("{0}")]
+    Run(RunFault),
+}
+
+impl From<RunFault> for CommandFault {
+    ghost from_gives = { λ given fault. fault ≡ Run given };
+
+    fn from(fault: RunFault) -> CommandFault {
+        CommandFault::Run(fault)
+    }
+}
+
+impl From<AllocError> for CommandFault {
+    ghost from_gives = { λ _ fault. fault ≡ Run Memory };
+
+    fn from(_error: AllocError) -> CommandFault {
+        CommandFault::Run(RunFault::Memory)
+    }
+}
+
+/// A command line for which there was no memory is a fault of the run.
+impl From<LineError> for CommandFault {
+    fn from(error: LineError) -> CommandFault {
+        if error.kind() == ErrorKind::OutOfMemory {
+            CommandFault::Run(RunFault::Memory)
+        } else {
+            CommandFault::Line(error)
+        }
     }
 }

@@ -1,55 +1,91 @@
 //! The tap server's program: it reads its command line, calls what is proved, and prints. Its main
-//! promise is that of `replay_text`: what is written is a stated function of what is read.
+//! promises are those of `replay_text` and `check_table`: what is written is a stated function of
+//! what is read.
 #![tactic(auto)]
 
 mod arguments;
+mod check;
 mod fault;
 mod hex_line;
 mod history;
 mod laws;
 mod replay;
+mod stream;
 
-use crate::arguments::{Arguments, arguments_of};
-use crate::fault::RunFault;
+use crate::arguments::{Arguments, arguments_of, refuse_bytes};
+use crate::check::check_table;
+use crate::fault::{CommandFault, RunFault};
 use crate::replay::replay_text;
 use oyster_account::Tariff;
+use std::fs::File;
 use std::process::ExitCode;
-use std::rt::Env;
+use std::rt::{Env, Files};
 use std::{env, io};
 
-/// How many reads a replay makes at most.
+/// How many reads a command makes of its input at most.
 const TURNS: u32 = 1_000_000;
 
 fn main(rt: HostRuntime) -> io::Result<ExitCode> {
-    run(&rt)
+    match run(&rt) {
+        Ok(status) => Ok(status),
+        Err(fault) => tell(&rt, fault),
+    }
 }
 
 /// Does what the command line asks for, and answers the status.
-fn run<R: AllocGlobal + Env + Input + Print + Eprint>(rt: &R) -> io::Result<ExitCode> {
-    let words: Vec<String> = env::args(rt)?.collect(rt.alloc())?;
+fn run<R: AllocGlobal + Env + Files + Input + Print>(rt: &R) -> Result<ExitCode, CommandFault> {
+    let words = words(rt)?;
     let words: Vec<&str> = words.iter().map(|word| word.as_str()).collect(rt.alloc())?;
-    match arguments_of(rt.alloc(), words.as_slice()) {
-        Ok(Arguments::Replay { cards }) => told(rt, replay_input(rt, cards)),
-        Err(error) => {
-            error.print(rt)?;
-            Ok(ExitCode::from(error.exit_code() as u8))
-        }
+    match arguments_of(rt.alloc(), words.as_slice())? {
+        Arguments::Replay { cards } => replay_input(rt, cards),
+        Arguments::Check { table } => check_file(rt, table),
+    }
+}
+
+/// The words of the command line.
+fn words<R: AllocGlobal + Env>(rt: &R) -> Result<Vec<String>, CommandFault> {
+    match env::args(rt) {
+        Ok(words) => Ok(words.collect(rt.alloc())?),
+        Err(error) if error.kind() == io::ErrorKind::OutOfMemory => Err(RunFault::Memory.into()),
+        Err(_) => Err(CommandFault::Line(refuse_bytes(rt.alloc())?)),
     }
 }
 
 /// Replays standard input to standard output.
-fn replay_input<R: AllocGlobal + Input + Print>(rt: &R, cards: u32) -> Result<(), RunFault> {
+fn replay_input<R: AllocGlobal + Input + Print>(
+    rt: &R,
+    cards: u32,
+) -> Result<ExitCode, CommandFault> {
     let tariff = Tariff::example();
     let mut reader = rt.reader();
     let mut writer = io::writer(rt);
-    replay_text(rt.alloc(), &tariff, cards, &mut reader, &mut writer, TURNS)
+    replay_text(rt.alloc(), &tariff, cards, &mut reader, &mut writer, TURNS)?;
+    Ok(ExitCode::SUCCESS)
 }
 
-/// Tells a fault to standard error, and answers the status: 0 without a fault, 1 with one.
-fn told<R: Eprint>(rt: &R, ended: Result<(), RunFault>) -> io::Result<ExitCode> {
-    match ended {
-        Ok(()) => Ok(ExitCode::SUCCESS),
-        Err(fault) => {
+/// Checks the fare table in a file, and writes to standard output what it is.
+fn check_file<R: AllocGlobal + Files + Print>(
+    rt: &R,
+    path: &str,
+) -> Result<ExitCode, CommandFault> {
+    let mut file = File::open(rt, path).map_err(|_| CommandFault::File)?;
+    let mut writer = io::writer(rt);
+    match check_table(rt.alloc(), &mut file, &mut writer, TURNS) {
+        Ok(true) => Ok(ExitCode::SUCCESS),
+        Ok(false) => Ok(ExitCode::from(1)),
+        Err(RunFault::Read) => Err(CommandFault::File),
+        Err(fault) => Err(fault.into()),
+    }
+}
+
+/// Tells why a command wasn't done, and answers the status: that of `clap` for a command line, else 1.
+fn tell<R: Print + Eprint>(rt: &R, fault: CommandFault) -> io::Result<ExitCode> {
+    match fault {
+        CommandFault::Line(error) => {
+            error.print(rt)?;
+            Ok(ExitCode::from(error.exit_code() as u8))
+        }
+        fault => {
             rt.eprintln(fault)?;
             Ok(ExitCode::from(1))
         }

@@ -1,9 +1,9 @@
 //! The replay of a text of request lines: each line is answered by a line.
 
-ghost use Rattle.std.specs.Prelude.{◌≡◌, ◌+◌, ◌≤◌, ◌<◌, ◌^◌, ◌++◌, ◌∷◌, ℕ, List, [], length, take, IfOk, IfErr, IsErrAnd, OnOk};
-ghost use Rattle.std.specs.Io.KnownBytes.{Appends, Consumes, IsAtEnd, Keeps};
+ghost use Rattle.std.specs.Prelude.{◌≡◌, ◌+◌, ◌≤◌, ◌<◌, ◌^◌, ◌++◌, ◌∷◌, ℕ, List, [], length, IfOk, IfErr, IsErrAnd, OnOk};
+ghost use Rattle.std.specs.Io.KnownBytes.{Appends, IsAtEnd};
 ghost use Rattle.oyster_account.specs.Tariff.{Terms, terms_of};
-ghost use Rattle.tap_server.specs.declared.fault.RunFault.TheVariants.{Memory, Read, Write};
+ghost use Rattle.tap_server.specs.declared.fault.RunFault.TheVariants.{Memory, Write};
 ghost use Rattle.tap_server.specs.declared.hex_line.TheConstants.{LINE_FEED};
 ghost use Rattle.tap_server.specs.Replay.{behind, output_of};
 ghost use Rattle.tap_server.specs.Progress.{IsUnderWay, HasRefused, output_from};
@@ -12,13 +12,11 @@ ghost use Rattle.tap_server.specs.Run.{IsBeginning, HasStopped, HasWritten, Wrot
 use crate::fault::RunFault;
 use crate::hex_line::{LINE_FEED, LINE_LIMIT, append_answer, request_of_line};
 use crate::history::History;
+use crate::stream::{PIECE_SIZE, read_piece, write_text};
 use gate_session::{Answer, FaultCode};
 use oyster_account::Tariff;
 use std::alloc::{AllocError, Global};
 use std::io::{Read, Write};
-
-/// The most bytes that one read gives.
-pub const PIECE_SIZE: usize = 65_536;
 
 /// A replay under way.
 #[derive(Drop)]
@@ -212,34 +210,5 @@ impl Replay {
         write_text(writer, &self.text)?;
         self.text.clear();
         Ok(())
-    }
-}
-
-/// One read.
-fn read_piece<R: Read>(reader: &mut R, piece: &mut [u8]) -> Result<usize, RunFault>
-    ensures ok { IfOk result (λ size. (size ≤ length piece.new)
-        × Consumes (R.remaining reader.old) (R.remaining reader.new) (take size piece.new)) }
-    ensures end { result ≡ Ok 0 → 0 < length piece.old → IsAtEnd (R.remaining reader.new) }
-    ensures err { IfErr result (λ fault. (fault ≡ Read) × Keeps (R.remaining reader.old) (R.remaining reader.new)) }
-{
-    reader.read(piece).map_err(|_| RunFault::Read)
-}
-
-/// Writes a text, through whatever buffers the writer has. At an `Err` a beginning of it was written.
-fn write_text<W: Write>(writer: &mut W, text: &[u8]) -> Result<(), RunFault>
-    ensures ok { OnOk result (Appends (W.contents writer.old) (W.contents writer.new) text.now) }
-    ensures err { IfErr result (λ fault. (fault ≡ Write) × Wrote (W.contents writer.old) (W.contents writer.new)
-        (λ written. IsBeginning written text.now)) }
-{
-    let mut at = 0;
-    while at < text.len() {
-        match writer.write(&text[at..]) {
-            Ok(size) if size > 0 => at += size,
-            _ => return Err(RunFault::Write),
-        }
-    }
-    match writer.flush() {
-        Ok(()) => Ok(()),
-        Err(_) => Err(RunFault::Write),
     }
 }

@@ -1,8 +1,9 @@
+mod check;
 mod fakes;
 mod rows;
 
 use crate::arguments::{Arguments, arguments_of};
-use crate::fault::RunFault;
+use crate::fault::{CommandFault, RunFault};
 use crate::laws::{each_touch_once, lines_of_requests, repeats_are_kept};
 use crate::replay::replay_text;
 use fakes::{Pieces, Taker};
@@ -226,18 +227,24 @@ fn a_fault_is_told_in_one_line(rt: HostRuntime) -> Result<(), Fail> {
         (RunFault::BadLine(7), "fault run 4 BadLine 7"),
     ] {
         assert_eq!(rt; fault.to_string(alloc)?.as_str(), told);
+        let passed_on = CommandFault::Run(fault);
+        assert_eq!(rt; passed_on.to_string(alloc)?.as_str(), told);
     }
+    assert_eq!(rt; CommandFault::File.to_string(alloc)?.as_str(), "fault file");
     Ok(())
 }
 
 #[test]
-fn a_command_line_has_one_command_and_a_number_of_cards(rt: HostRuntime) -> Result<(), Fail> {
+fn a_command_line_has_one_command_and_what_it_needs(rt: HostRuntime) -> Result<(), Fail> {
     let alloc = rt.alloc();
     for (number, cards) in [("1", 1), ("10", 10), ("100000", 100_000)] {
         let words = ["tap_server", "replay", "--cards", number];
         assert_eq!(rt; arguments_of(alloc, &words)?, Arguments::Replay { cards });
     }
-    let refused: [&[&str]; 9] = [
+    let words = ["tap_server", "check", "--table", "fares.toml"];
+    let table = "fares.toml";
+    assert_eq!(rt; arguments_of(alloc, &words)?, Arguments::Check { table });
+    let refused: [&[&str]; 13] = [
         &["tap_server"],
         &["tap_server", "reply", "--cards", "10"],
         &["tap_server", "replay"],
@@ -247,13 +254,27 @@ fn a_command_line_has_one_command_and_a_number_of_cards(rt: HostRuntime) -> Resu
         &["tap_server", "replay", "--cards", "x"],
         &["tap_server", "replay", "--cards", "10", "--cards", "10"],
         &["tap_server", "--cards", "10", "replay"],
+        &["tap_server", "check"],
+        &["tap_server", "check", "--table"],
+        &["tap_server", "check", "fares.toml"],
+        &[
+            "tap_server",
+            "check",
+            "--table",
+            "fares.toml",
+            "--cards",
+            "10",
+        ],
     ];
     for words in refused {
         let error = arguments_of(alloc, words).err().ok_or("a refusal")?;
         assert_eq!(rt; error.exit_code(), 2);
     }
-    let help = arguments_of(alloc, &["tap_server", "replay", "--help"]);
-    assert_eq!(rt; help.err().ok_or("help")?.exit_code(), 0);
+    for command in ["replay", "check"] {
+        let words = ["tap_server", command, "--help"];
+        let help = arguments_of(alloc, &words).err().ok_or("help")?;
+        assert_eq!(rt; help.exit_code(), 0, "{command}");
+    }
     Ok(())
 }
 

@@ -3,8 +3,8 @@ use Rattle.std.proofs.lemmas.List.{length-drop, length-take, take_rest}
 use Rattle.std.specs.Io.KnownBytes.{Appends}
 use Rattle.std.proofs.KnownBytes.{Appends-trans}
 use Rattle.tap_server.proofs.ReplayLemmas.{Appends-kept}
-use Rattle.tap_server.proofs.replay.write_text.Goals as goal
-use Rattle.tap_server.proofs.replay.write_text.Goals.{In-Ok}
+use Rattle.tap_server.proofs.stream.write_text.Goals as goal
+use Rattle.tap_server.proofs.stream.write_text.Goals.{In-Ok}
 
 -- what this write took stands behind what was written
 more : (text : List ℕ) (at size : ℕ) → take at text ++ take size (take (length text - at) (drop at text)) ≡ take (at + size) text

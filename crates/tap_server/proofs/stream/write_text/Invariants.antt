@@ -1,6 +1,6 @@
 use Rattle.std.proofs.Common.{◌-◌, ◌≤◌, length, take}
 use Rattle.std.specs.Io.KnownBytes.{Appends}
-use Rattle.tap_server.proofs.replay.write_text.Given as goal
+use Rattle.tap_server.proofs.stream.write_text.Given as goal
 
 -- what lies before the place was written
 abbrev pub invariant-loop-at : goal.invariant-loop-at
