@@ -17,7 +17,7 @@ use Rattle.fare_table.specs.declared.rows.Single.{Single}
 use Rattle.fare_table.specs.declared.rows.Pair.{Pair}
 use Rattle.fare_table.specs.declared.rows.Interchange.{Interchange}
 use Rattle.fare_table.specs.declared.station.Station.{Station}
-use Rattle.fare_table.proofs.FirstLemmas.{append-none, append-some}
+use Rattle.fare_table.proofs.FirstLemmas.{append-none, append-some, last_none}
 
 -- a text with no tree
 pub not_toml : (text : List ℕ) → parse_document text ≡ None → first_fault text ≡ Some NotToml
@@ -75,10 +75,6 @@ not_low rates st sg pr ic none =
     unless (is_maximum_low rates sg pr) (last_none (missing_singles st sg) (maximum_faults rates sg pr)
     (last_none (unknown_faults st pr ic) (missing_singles st sg ++ maximum_faults rates sg pr) none))
   where
-    last_none : (xs ys : List TableFault) → first (xs ++ ys) ≡ None → first ys ≡ None
-    last_none [] ys e = e
-    last_none (x ∷ xs) ys e = cc
-
     unless : (b : Bool) → first (if b then MaximumTooLow ∷ [] else []) ≡ None → b ≡ false
     unless true e = cc
     unless false e = refl

@@ -14,3 +14,4 @@ pub mod Faults
 pub mod Dates
 pub mod Lists
 pub mod Table
+pub mod Listed

@@ -1,8 +1,12 @@
 //! A fare table that was read, and what it is asked for.
 ghost use Rattle.std.specs.Prelude.{◌≡◌, ◌≢◌, ◌≤◌, false, length, option_copied, None, Some, Ok};
-ghost use Rattle.std.specs.Prelude.{IsSome, IfOk, IfErr};
+ghost use Rattle.std.specs.Prelude.{IsSome, IfSome, IfOk, IfErr};
+ghost use Rattle.std.specs.List.{All, Contains};
+ghost use Rattle.std.proofs.Props.{props};
 ghost use Rattle.fare_table.specs.Faults.{first_fault};
-ghost use Rattle.fare_table.specs.Limits.{is_maximum_low};
+ghost use Rattle.fare_table.specs.Limits.{is_maximum_low, AreWithinLimits};
+ghost use Rattle.fare_table.specs.Listed.{fares_of, band_of, HasSingles};
+ghost use Rattle.fare_table.specs.declared.key.TheConstants.{HIGHEST_PRICE, HIGHEST_BALANCE, MOST_MINUTES, MOST_CAPS};
 
 use crate::fare::{self, Fare};
 use crate::fault::TableFault;
@@ -32,6 +36,8 @@ pub struct Fares {
     interchanges: Interchanges,
     digest: [u8; 32],
     ghost within_maximum: { is_maximum_low rates singles.items pairs ≡ false },
+    ghost within_limits: { AreWithinLimits rates pairs caps.items interchanges } by { Prim.hlevel props },
+    ghost has_singles: { HasSingles stations singles.items },
 }
 
 impl Fares {
@@ -64,7 +70,9 @@ impl Fares {
 
     // The table of these parts.
     fn of(zone: Zone, rates: Rates, holidays: Vec<i32>, lists: Lists, digest: [u8; 32]) -> Fares
-        requires { is_maximum_low rates lists.singles.items lists.pairs ≡ false }
+        requires maximum { is_maximum_low rates lists.singles.items lists.pairs ≡ false }
+        requires limits { AreWithinLimits rates lists.pairs lists.caps.items lists.interchanges }
+        requires singles { HasSingles lists.stations lists.singles.items }
         ensures content { content_of result ≡ content_from zone rates holidays.items lists }
         ensures digest { digest_of result ≡ digest }
     {
@@ -102,6 +110,7 @@ impl Fares {
         requires to_known { IsSome (station_at (content_of self.now) to) }
         ensures value { result ≡ fare_of (content_of self.now) from to window }
         ensures bound { result.pence ≤ maximum_of (content_of self.now) window }
+        ensures listed { Contains (fares_of (content_of self.now) (band_of (content_of self.now) from to window)) result }
     {
         self.find_fare(from, to, window)
     }
@@ -136,7 +145,8 @@ impl Fares {
     pub fn leg_minutes(&self, from: u16, to: u16) -> u32
         requires from_known { IsSome (station_at (content_of self.now) from) }
         requires to_known { IsSome (station_at (content_of self.now) to) }
-        ensures { result ≡ leg_minutes_of (content_of self.now) from to }
+        ensures value { result ≡ leg_minutes_of (content_of self.now) from to }
+        ensures limit { result ≤ MOST_MINUTES }
     {
         match self.pairs.find(from, to) {
             Some(pair) => pair.minutes.unwrap_or(self.rates.leg_minutes),
@@ -146,7 +156,8 @@ impl Fares {
 
     /// The maximum charge in a window, in pence.
     pub fn maximum(&self, window: Window) -> u32
-        ensures { result ≡ maximum_of (content_of self.now) window }
+        ensures value { result ≡ maximum_of (content_of self.now) window }
+        ensures limit { result ≤ HIGHEST_PRICE }
     {
         match window {
             Window::Off => self.rates.maximum_off_peak,
@@ -157,7 +168,8 @@ impl Fares {
     /// The minutes that an interchange between two stations may take, the same in both directions,
     /// where the table lists one.
     pub fn interchange(&self, from: u16, to: u16) -> Option<u32>
-        ensures { result ≡ interchange_of (content_of self.now) from to }
+        ensures value { result ≡ interchange_of (content_of self.now) from to }
+        ensures limit { IfSome result (λ minutes. minutes ≤ MOST_MINUTES) }
     {
         match self.interchanges.find(from, to) {
             Some(interchange) => Some(interchange.minutes),
@@ -167,21 +179,25 @@ impl Fares {
 
     /// The daily caps, in the table's order.
     pub fn caps(&self) -> &[Cap]
-        ensures { result.now ≡ (content_of self.now).caps }
+        ensures value { result.now ≡ (content_of self.now).caps }
+        ensures limit { All (λ cap. cap.price ≤ HIGHEST_PRICE) result.now }
+        ensures count { length result.now ≤ MOST_CAPS }
     {
         self.caps.as_slice()
     }
 
     /// The balance in pence that a touch in needs.
     pub fn entry_minimum(&self) -> u32
-        ensures { result ≡ (content_of self.now).rates.entry_minimum }
+        ensures value { result ≡ (content_of self.now).rates.entry_minimum }
+        ensures limit { result ≤ HIGHEST_PRICE }
     {
         self.rates.entry_minimum
     }
 
     /// The highest balance in pence that a top-up may make.
     pub fn balance_limit(&self) -> u32
-        ensures { result ≡ (content_of self.now).rates.balance_limit }
+        ensures value { result ≡ (content_of self.now).rates.balance_limit }
+        ensures limit { result ≤ HIGHEST_BALANCE }
     {
         self.rates.balance_limit
     }

@@ -5,6 +5,8 @@ use Rattle.toml.specs.View.{table_view}
 use Rattle.fare_table.specs.First.{first}
 use Rattle.fare_table.specs.Table.{IsContentOf}
 use Rattle.fare_table.proofs.FaultsLemmas.{in_twice, in_prices, in_zone, in_dates, in_none, price_faults-lists, not_low}
+use Rattle.fare_table.proofs.LimitsLemmas.{lists-limits}
+use Rattle.fare_table.proofs.SinglesLemmas.{lists-singles}
 use Rattle.fare_table.proofs.fares.Fares.read.Goals as goal
 
 pub returns-in_err-lists-clause-fault : goal.returns-in_err-lists-clause-fault
@@ -39,8 +41,16 @@ returns-in_err-holidays-clause-fault c =
     (ap first (sym same) ∙ sym c.in_default.ensures) (rw c.text_at.ensures at c.in_ok-zone.ensures.no_fault)
     (rw c.rows_at.ensures at (c.in_err-holidays.ensures.fault other)))
 
-pub of-requires : goal.of-requires
-of-requires c =
+pub of-requires-clause-limits : goal.of-requires-clause-limits
+of-requires-clause-limits c =
+    lists-limits (table_view c.in_ok-tree.tree) c.in_ok-lists.lists c.of-rates.result c.in_ok-tree.ensures.no_fault c.in_ok-lists.ensures.ok c.of-rates.ensures
+
+pub of-requires-clause-singles : goal.of-requires-clause-singles
+of-requires-clause-singles c =
+    lists-singles (table_view c.in_ok-tree.tree) c.in_ok-lists.lists c.of-rates.result c.in_ok-tree.ensures.no_fault c.in_ok-lists.ensures.ok (sym c.in_default.ensures)
+
+pub of-requires-clause-maximum : goal.of-requires-clause-maximum
+of-requires-clause-maximum c =
     let lists = c.in_ok-lists.lists in
     not_low c.of-rates.result lists.stations lists.singles.items lists.pairs lists.interchanges (sym c.in_default.ensures)
 
