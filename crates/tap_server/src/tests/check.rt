@@ -58,6 +58,39 @@ fn a_refused_table_is_told_by_its_fault(rt: HostRuntime) -> Result<(), Fail> {
     Ok(())
 }
 
+// A station's number twice, a single that is missing and a maximum that is too low, and the same
+// with one of them mended after the other.
+#[test]
+fn a_table_with_several_faults_is_told_by_its_first(rt: HostRuntime) -> Result<(), Fail> {
+    let alloc = rt.alloc();
+    let changes = [
+        (
+            "maximum_off_peak = 700",
+            "maximum_off_peak = 309",
+            "fault table 9 MaximumTooLow\n",
+        ),
+        (
+            "  {low = 1, high = 3, peak = 400, off_peak = 310},\n",
+            "",
+            "fault table 8 MissingSingle 1 3\n",
+        ),
+        (
+            "zones = [2, 3]},\n",
+            "zones = [2, 3]},\n  {id = 3, name = \"Fir\", zones = [3]},\n",
+            "fault table 6 Twice station 6\n",
+        ),
+    ];
+    let mut table = String::from_str(alloc, EXAMPLE_TABLE)?;
+    for (from, to, line) in changes {
+        let (front, back) = table.as_str().split_once(from).ok_or("no such text")?;
+        table = format!(in alloc; "{front}{to}{back}")?;
+        let (written, answer) = checked(alloc, table.as_bytes());
+        assert_eq!(rt; answer, Ok(false), "{line}");
+        assert_eq!(rt; written.as_slice(), line.as_bytes(), "{line}");
+    }
+    Ok(())
+}
+
 #[test]
 fn bytes_that_are_no_table_are_told_by_their_fault(rt: HostRuntime) {
     let alloc = rt.alloc();
