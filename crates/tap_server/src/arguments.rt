@@ -1,6 +1,8 @@
 //! The program's command line.
 
-ghost use Rattle.std.specs.Prelude.{IfOk, IfSome};
+ghost use Rattle.std.specs.Prelude.{◌≡◌, IfOk, IfSome};
+ghost use Rattle.clap.specs.Values.{kind_of};
+ghost use Rattle.clap.specs.declared.error.kind.ErrorKind.TheVariants.{InvalidValue};
 ghost use Rattle.tap_server.specs.Arguments.{IsAllowed};
 
 use clap::error::ErrorKind;
@@ -51,7 +53,9 @@ pub fn arguments_of<'a>(alloc: Global, words: &'a [&'a str]) -> Result<Arguments
 }
 
 /// The refusal of a command line with a word that isn't UTF-8.
-pub fn refuse_bytes(alloc: Global) -> Result<Error, Error> {
+pub fn refuse_bytes(alloc: Global) -> Result<Error, Error>
+    ensures { IfOk result (λ error. kind_of error ≡ InvalidValue) }
+{
     Ok(command(alloc)?.error(ErrorKind::InvalidValue, NOT_UTF8)?)
 }
 

@@ -2,7 +2,7 @@ mod check;
 mod fakes;
 mod rows;
 
-use crate::arguments::{Arguments, arguments_of};
+use crate::arguments::{Arguments, arguments_of, refuse_bytes};
 use crate::fault::{CommandFault, RunFault};
 use crate::laws::{each_touch_once, lines_of_requests, repeats_are_kept};
 use crate::replay::replay_text;
@@ -275,6 +275,12 @@ fn a_command_line_has_one_command_and_what_it_needs(rt: HostRuntime) -> Result<(
         let help = arguments_of(alloc, &words).err().ok_or("help")?;
         assert_eq!(rt; help.exit_code(), 0, "{command}");
     }
+    Ok(())
+}
+
+#[test]
+fn a_word_that_is_no_text_is_a_wrong_command_line(rt: HostRuntime) -> Result<(), Fail> {
+    assert_eq!(rt; refuse_bytes(rt.alloc())?.exit_code(), 2);
     Ok(())
 }
 
