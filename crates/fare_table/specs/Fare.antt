@@ -1,5 +1,5 @@
--- The fare between two stations (docs/FARES.md, "Band" and "Single fare"; the bands are those of
--- TfL's published scheme; the evening exception, how a station of two zones counts, and which of
+-- The fare between two stations (docs/FARES.md, "Band" and "Fare by a table"; the bands are those
+-- of TfL's published scheme; the evening exception, how a station of two zones counts, and which of
 -- equal prices is taken are this project's choice).
 use Rattle.std.specs.Prelude.{ℕ, ℤ, Bool, true, false, not, ◌&&◌, ◌==◌, nat_lt, min, max}
 use Rattle.std.specs.Prelude.{List, [], ◌∷◌, map, Option, Some, None, option_map, unwrap_or, if◌then◌else◌}
@@ -22,7 +22,7 @@ use Rattle.fare_table.specs.declared.station.Station.{Station}
 use Rattle.fare_table.specs.declared.station.Zones.{Zones}
 use Rattle.fare_table.specs.declared.station.Zones.TheVariants.{One}
 
--- what a table says
+-- what a table says; its zone is the rule of the clock, and those of stations are zones of fares
 pub record Content : Type 0 where
   pub zone : TimeZone
   pub rates : Rates
@@ -122,7 +122,8 @@ fare_in_band c off_peak from to =
 -- the fare of a journey that starts at one station in a window and ends at the other
 abbrev pub fare_of : Content → ℕ → ℕ → Window → Fare
 fare_of c from to window =
-    fare_in_band c (is_off_peak c.rates.evening_rule (zones_at c from) (zones_at c to) window) from to
+    fare_in_band c
+    (is_off_peak c.rates.evening_rule (zones_at c from) (zones_at c to) window) from to
 
 -- the maximum charge of a window
 abbrev pub maximum_of : Content → Window → ℕ

@@ -12,12 +12,11 @@ use Rattle.fare_table.specs.Tree.{value_at, rows_at, text_in}
 use Rattle.fare_table.specs.Causes.{walk_faults}
 use Rattle.fare_table.specs.Repeats.{repeats}
 use Rattle.fare_table.specs.Limits.{is_maximum_low}
-use Rattle.fare_table.specs.Zones.{has_zone}
+use Rattle.fare_table.specs.Zones.{has_zone, all_zones}
 use Rattle.fare_table.specs.Fare.{single_at}
 use Rattle.fare_table.specs.Content.{same_station, same_single, same_pair, same_cap, same_interchange}
 use Rattle.fare_table.specs.Content.{rates_of, stations_of, singles_of, pairs_of, caps_of, interchanges_of}
 use Rattle.fare_table.specs.declared.key.Key.TheVariants as key
-use Rattle.fare_table.specs.declared.key.TheConstants.{ZONES}
 use Rattle.fare_table.specs.declared.fault.Cause.TheVariants as cause
 use Rattle.fare_table.specs.declared.fault.TableFault.{TableFault}
 use Rattle.fare_table.specs.declared.fault.TableFault.TheVariants.{NotToml, UnknownStation, MissingSingle}
@@ -40,7 +39,8 @@ twice_faults ms =
     ++ (repeats same_single key.Single [] 1 (singles_of (rows_at key.Single ms))
     ++ (repeats same_pair key.Pair [] 1 (pairs_of (rows_at key.Pair ms))
     ++ (repeats same_cap key.Cap [] 1 (caps_of (rows_at key.Cap ms))
-    ++ repeats same_interchange key.Interchange [] 1 (interchanges_of (rows_at key.Interchange ms)))))
+    ++ repeats same_interchange key.Interchange [] 1
+    (interchanges_of (rows_at key.Interchange ms)))))
 
 -- some station has this number
 abbrev pub is_known : List Station → ℕ → Bool
@@ -50,10 +50,11 @@ is_known stations id = list_any (λ station. id == station.id) stations
 abbrev pub unknown : List Station → ℕ → List TableFault
 unknown stations id = if is_known stations id then [] else UnknownStation id ∷ []
 
--- the stations of a pair and of an interchange, each in its order
+-- the stations that a pair names and that are not known, in its order
 abbrev pub unknown_of_pair : List Station → Pair → List TableFault
 unknown_of_pair stations pair = unknown stations pair.from ++ unknown stations pair.to
 
+-- the stations that an interchange names and that are not known, in its order
 abbrev pub unknown_of_interchange : List Station → Interchange → List TableFault
 unknown_of_interchange stations interchange =
     unknown stations interchange.a ++ unknown stations interchange.b
@@ -81,7 +82,7 @@ missing_from stations singles zones low = filter_map (missing_single stations si
 
 -- the singles that are missing, by the lower zone and then by the higher one
 abbrev pub missing_singles : List Station → List Single → List TableFault
-missing_singles stations singles = flat_map (missing_from stations singles ZONES) ZONES
+missing_singles stations singles = flat_map (missing_from stations singles all_zones) all_zones
 
 -- a maximum that is too low
 abbrev pub maximum_faults : Rates → List Single → List Pair → List TableFault
@@ -100,23 +101,26 @@ date_faults row (d ∷ ds) =
     ++ date_faults (row + 1) ds
 
 -- the faults between the rows of a table's lists
-abbrev pub row_faults : Rates → List Station → List Single → List Pair → List Interchange → List TableFault
-row_faults rates stations singles pairs interchanges =
+abbrev pub agreement_faults :
+    Rates → List Station → List Single → List Pair → List Interchange → List TableFault
+agreement_faults rates stations singles pairs interchanges =
     unknown_faults stations pairs interchanges
     ++ (missing_singles stations singles ++ maximum_faults rates singles pairs)
 
-abbrev pub price_faults : Members → List TableFault
-price_faults ms = row_faults (rates_of ms)
+-- the faults between the rows of a tree's lists
+abbrev pub agreement_faults_of : Members → List TableFault
+agreement_faults_of ms = agreement_faults (rates_of ms)
     (stations_of (rows_at key.Station ms)) (singles_of (rows_at key.Single ms))
     (pairs_of (rows_at key.Pair ms)) (interchanges_of (rows_at key.Interchange ms))
 
 -- the faults of the zone and of the dates
 abbrev pub time_faults : Members → List TableFault
-time_faults ms = zone_faults (text_in (value_at key.Zone ms)) ++ date_faults 1 (rows_at key.Holidays ms)
+time_faults ms =
+    zone_faults (text_in (value_at key.Zone ms)) ++ date_faults 1 (rows_at key.Holidays ms)
 
 -- all faults of a table
 abbrev pub faults : Members → List TableFault
-faults ms = key_faults ms ++ (twice_faults ms ++ (price_faults ms ++ time_faults ms))
+faults ms = key_faults ms ++ (twice_faults ms ++ (agreement_faults_of ms ++ time_faults ms))
 
 -- the first fault of a text that a tree may be read from
 abbrev pub first_fault_of : Option Members → Option TableFault

@@ -25,6 +25,7 @@ pub fn read(alloc: Global, text: &str) -> Result<Table, TableFault>
     }
 }
 
+/// The tree of a text, before its keys are looked at.
 fn parse(alloc: Global, text: &str) -> Result<Table, TableFault>
     ensures ok { IfOk result (λ tree. parse_document text.now ≡ Some (table_view tree)) }
     ensures fault { IfErr result (λ fault. fault ≢ TableFault.Memory
@@ -36,6 +37,7 @@ fn parse(alloc: Global, text: &str) -> Result<Table, TableFault>
     }
 }
 
+/// The fault of a text that has no tree.
 fn fault_of(is_memory: bool) -> TableFault
     ensures { result ≡ (if is_memory then TableFault.Memory else TableFault.NotToml) }
 {

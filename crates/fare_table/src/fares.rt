@@ -10,14 +10,11 @@ ghost use Rattle.fare_table.specs.declared.key.TheConstants.{HIGHEST_PRICE, HIGH
 
 use crate::fare::{self, Fare};
 use crate::fault::TableFault;
-use crate::interchanges::Interchanges;
 use crate::key::Key;
 use crate::lists::{self, Lists};
-use crate::pairs::Pairs;
 use crate::rates::Rates;
-use crate::rows::{Cap, Single};
+use crate::rows::Cap;
 use crate::station::{Station, Zones};
-use crate::stations::Stations;
 use crate::{document, times, tree};
 use money_time::{Stamp, Window, Zone};
 use sha2::{Digest, Sha256};
@@ -26,30 +23,27 @@ use std::alloc::{AllocError, Global};
 /// A fare table that was read.
 #[derive(Drop)]
 pub struct Fares {
-    zone: Zone,
+    clock: Zone,
     rates: Rates,
     holidays: Vec<i32>,
-    stations: Stations,
-    singles: Vec<Single>,
-    pairs: Pairs,
-    caps: Vec<Cap>,
-    interchanges: Interchanges,
+    lists: Lists,
     digest: [u8; 32],
-    ghost within_maximum: { is_maximum_low rates singles.items pairs ≡ false },
-    ghost within_limits: { AreWithinLimits rates pairs caps.items interchanges } by { Prim.hlevel props },
-    ghost has_singles: { HasSingles stations singles.items },
+    ghost within_maximum: { is_maximum_low rates lists.singles.items lists.pairs ≡ false },
+    ghost within_limits: { AreWithinLimits rates lists.pairs lists.caps.items lists.interchanges } by { Prim.hlevel props },
+    ghost has_singles: { HasSingles lists.stations lists.singles.items },
 }
 
 impl Fares {
-    ghost use Rattle.fare_table.specs.Fares.{content_of, content_from, digest_of};
+    ghost use Rattle.fare_table.specs.Fares.{content_of, digest_of};
     ghost use Rattle.fare_table.specs.Table.{IsTableOf};
     ghost use Rattle.fare_table.specs.Fare.{station_at, zones_at, fare_of, maximum_of, leg_minutes_of, interchange_of, stamp_of};
 
     /// Reads a table's text, as docs/TABLE.md says.
     ///
     /// It accepts exactly the valid tables, want of memory aside. A fault is of the first cause in
-    /// their order that holds, at its first place. `Memory` comes where a growth was refused, before
-    /// the causes that are looked for later. It allocates what the table keeps and the text's tree.
+    /// their order that holds, at its first place. `Memory` comes where a growth was refused,
+    /// before the causes that are looked for later. It allocates what the table keeps and the
+    /// text's tree.
     pub fn read(alloc: Global, text: &str) -> Result<Fares, TableFault>
         ensures ok { IfOk result (IsTableOf text.now) }
         ensures no_fault { IfOk result (λ _. first_fault text.now ≡ None) }
@@ -65,42 +59,20 @@ impl Fares {
         let zone = times::zone_of(tree::text_at(&tree, Key::Zone))?;
         let holidays = times::days_of(alloc, tree::rows_at(&tree, Key::Holidays))?;
         let digest = Sha256::digest(text.as_bytes());
-        Ok(Fares::of(zone, rates, holidays, lists, digest))
-    }
-
-    // The table of these parts.
-    fn of(zone: Zone, rates: Rates, holidays: Vec<i32>, lists: Lists, digest: [u8; 32]) -> Fares
-        requires maximum { is_maximum_low rates lists.singles.items lists.pairs ≡ false }
-        requires limits { AreWithinLimits rates lists.pairs lists.caps.items lists.interchanges }
-        requires singles { HasSingles lists.stations lists.singles.items }
-        ensures content { content_of result ≡ content_from zone rates holidays.items lists }
-        ensures digest { digest_of result ≡ digest }
-    {
-        let Lists {
-            stations,
-            singles,
-            pairs,
-            caps,
-            interchanges,
-        } = lists;
-        Fares {
-            zone,
+        Ok(Fares {
+            clock: zone,
             rates,
             holidays,
-            stations,
-            singles,
-            pairs,
-            caps,
-            interchanges,
+            lists,
             digest,
-        }
+        })
     }
 
     /// The station of this number.
     pub fn station(&self, id: u16) -> Option<&Station>
         ensures { option_copied result ≡ station_at (content_of self.now) id }
     {
-        self.stations.find(id)
+        self.lists.stations.find(id)
     }
 
     /// The fare of a journey that starts at one station in a window and ends at the other, both of
@@ -110,11 +82,13 @@ impl Fares {
         requires to_known { IsSome (station_at (content_of self.now) to) }
         ensures value { result ≡ fare_of (content_of self.now) from to window }
         ensures bound { result.pence ≤ maximum_of (content_of self.now) window }
-        ensures listed { Contains (fares_of (content_of self.now) (band_of (content_of self.now) from to window)) result }
+        ensures listed { Contains (fares_of (content_of self.now)
+            (band_of (content_of self.now) from to window)) result }
     {
         self.find_fare(from, to, window)
     }
 
+    /// The fare of a named pair, or else the cheapest single of the zones.
     fn find_fare(&self, from: u16, to: u16, window: Window) -> Fare
         requires from_known { IsSome (station_at (content_of self.now) from) }
         requires to_known { IsSome (station_at (content_of self.now) to) }
@@ -123,13 +97,13 @@ impl Fares {
         let origin = self.zones(from);
         let destination = self.zones(to);
         let off_peak = fare::is_off_peak(self.rates.evening_rule, origin, destination, window);
-        match self.pairs.find(from, to) {
+        match self.lists.pairs.find(from, to) {
             Some(pair) => fare::pair_fare(off_peak, *pair),
-            None => fare::cheapest(self.singles.as_slice(), off_peak, origin, destination),
+            None => fare::cheapest(self.lists.singles.as_slice(), off_peak, origin, destination),
         }
     }
 
-    // The zones of a station that is known.
+    /// The zones of a station that is known.
     fn zones(&self, id: u16) -> Zones
         requires { IsSome (station_at (content_of self.now) id) }
         ensures { result ≡ zones_at (content_of self.now) id }
@@ -148,7 +122,7 @@ impl Fares {
         ensures value { result ≡ leg_minutes_of (content_of self.now) from to }
         ensures limit { result ≤ MOST_MINUTES }
     {
-        match self.pairs.find(from, to) {
+        match self.lists.pairs.find(from, to) {
             Some(pair) => pair.minutes.unwrap_or(self.rates.leg_minutes),
             None => self.rates.leg_minutes,
         }
@@ -171,7 +145,7 @@ impl Fares {
         ensures value { result ≡ interchange_of (content_of self.now) from to }
         ensures limit { IfSome result (λ minutes. minutes ≤ MOST_MINUTES) }
     {
-        match self.interchanges.find(from, to) {
+        match self.lists.interchanges.find(from, to) {
             Some(interchange) => Some(interchange.minutes),
             None => None,
         }
@@ -183,7 +157,7 @@ impl Fares {
         ensures limit { All (λ cap. cap.price ≤ HIGHEST_PRICE) result.now }
         ensures count { length result.now ≤ MOST_CAPS }
     {
-        self.caps.as_slice()
+        self.lists.caps.as_slice()
     }
 
     /// The balance in pence that a touch in needs.
@@ -206,14 +180,14 @@ impl Fares {
     pub fn station_count(&self) -> usize
         ensures { result ≡ length (content_of self.now).stations }
     {
-        self.stations.len()
+        self.lists.stations.len()
     }
 
     /// How many single fares the table has.
     pub fn single_count(&self) -> usize
         ensures { result ≡ length (content_of self.now).singles }
     {
-        self.singles.as_slice().len()
+        self.lists.singles.as_slice().len()
     }
 
     /// The SHA-256 digest of the table's text.
@@ -227,7 +201,7 @@ impl Fares {
     pub fn stamp(&self, moment: u32) -> Result<Stamp, AllocError>
         ensures { result ≡ Ok (stamp_of (content_of self.now) moment) }
     {
-        match self.zone.stamp(moment, self.holidays.as_slice()) {
+        match self.clock.stamp(moment, self.holidays.as_slice()) {
             Ok(stamp) => Ok(stamp),
             Err(_) => Err(AllocError),
         }

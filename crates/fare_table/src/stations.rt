@@ -39,9 +39,11 @@ impl Stations {
     pub fn read(alloc: Global, rows: &[Value]) -> Result<Stations, TableFault>
         ensures ok { IfOk result (λ stations. stations ≡ stations_of (map view rows.now)) }
         ensures no_fault { IfOk result
-            (λ _. first (repeats same_station Key.Station [] 1 (stations_of (map view rows.now))) ≡ None) }
+            (λ _. first (repeats same_station Key.Station [] 1
+            (stations_of (map view rows.now))) ≡ None) }
         ensures fault { IfErr result (λ fault. fault ≢ TableFault.Memory
-            → first (repeats same_station Key.Station [] 1 (stations_of (map view rows.now))) ≡ Some fault) }
+            → first (repeats same_station Key.Station [] 1
+            (stations_of (map view rows.now))) ≡ Some fault) }
     {
         let mut index = IndexMap::new(alloc);
         for (place, row) in rows.iter().enumerate() {
@@ -97,7 +99,7 @@ pub fn unknown(stations: &Stations, one: u16, other: u16) -> Option<TableFault>
     }
 }
 
-// The station of a row.
+/// The station of a row.
 fn station_of(alloc: Global, row: &Value) -> Result<Station, AllocError>
     ensures { IfOk result (λ station. station ≡ station_of (view row.now)) }
 {
@@ -109,6 +111,7 @@ fn station_of(alloc: Global, row: &Value) -> Result<Station, AllocError>
     })
 }
 
+/// The zones of a value that may be there.
 fn zones_of(value: Option<&Value>) -> Option<Zones>
     ensures { result ≡ zones_of_value (option_map (λ value. view value.now) value.entry) }
 {

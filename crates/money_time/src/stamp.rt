@@ -72,24 +72,28 @@ pub fn window_at(date: Date, minute: u16, holidays: &[i32]) -> Window
     }
 }
 
+/// Whether the date is from Monday to Friday and no listed holiday.
 fn is_working(date: Date, holidays: &[i32]) -> bool
     ensures { result ≡ is_working_day holidays.now (epoch_day date) }
 {
     is_weekday(date) && !is_listed(day_number(date), holidays)
 }
 
+/// Whether the date is from Monday to Friday.
 fn is_weekday(date: Date) -> bool
     ensures { result ≡ is_weekday (epoch_day date) }
 {
     !matches!(date.weekday(), Weekday::Saturday | Weekday::Sunday)
 }
 
+/// Whether the day is on the list.
 fn is_listed(day: i32, days: &[i32]) -> bool
     ensures { result ≡ is_listed days.now day }
 {
     days.iter().any(|listed| *listed == day)
 }
 
+/// The window of a minute of a working day.
 fn clock_window(minute: u16) -> Window
     ensures { result ≡ clock_window minute }
 {

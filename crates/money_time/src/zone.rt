@@ -53,7 +53,7 @@ impl Zone {
         })
     }
 
-    // The civil date and time that the clock shows at a moment.
+    /// The civil date and time that the clock shows at a moment.
     fn civil(&self, moment: u32) -> DateTime
         ensures day { epoch_day result.date ≡ civil_day (rule_of self.now) moment }
         ensures minute { result.time.hour * 60 + result.time.minute
@@ -63,6 +63,7 @@ impl Zone {
     }
 }
 
+/// The moment as `jiff` counts it.
 fn instant_of(moment: u32) -> Timestamp
     ensures { result.nanosecond ≡ nanos_of_seconds (pos moment) }
 {
@@ -72,7 +73,7 @@ fn instant_of(moment: u32) -> Timestamp
     instant
 }
 
-// The minute of the civil day.
+/// The minute of the civil day.
 fn minute_of(civil: DateTime) -> u16
     ensures { result ≡ civil.time.hour * 60 + civil.time.minute }
 {

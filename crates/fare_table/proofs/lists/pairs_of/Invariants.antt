@@ -1,8 +1,0 @@
-use Rattle.std.proofs.Common.{◌≡◌, map, take}
-use Rattle.toml.specs.View.{view}
-use Rattle.fare_table.specs.Content.{pairs_of}
-use Rattle.fare_table.proofs.lists.pairs_of.Given as goal
-
--- the rows so far
-abbrev pub invariant-loop-row : goal.invariant-loop-row
-invariant-loop-row l = l.pairs.items ≡ pairs_of (map view (take l.row-index l.rows))
