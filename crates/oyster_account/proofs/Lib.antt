@@ -1,5 +1,16 @@
+pub mod AccountLemmas
 pub mod CallerLemmas
-mod Examples
+pub mod ChargeLemmas
+pub mod DayLemmas
 pub mod HistoryLemmas
+pub mod OrderLemmas
+pub mod RowLemmas
+pub mod RunningLemmas
+pub mod StandingLemmas
+pub mod TravelsLemmas
+pub mod TravelLemmas
+pub mod Numbers
+pub mod TouchLemmas
+mod Examples
+pub mod LawLemmas
 pub mod ListLemmas
-pub mod StatementLemmas

@@ -1,47 +1,56 @@
 //! A card, as the touches that it was judged by.
 
-ghost use Rattle.std.specs.Prelude.{◌≤◌, vec_len};
+ghost use Rattle.std.specs.Prelude.{◌≤◌};
 ghost use Rattle.oyster_account.specs.declared.card.TheConstants.{HISTORY_LIMIT};
 
+use crate::account::{Account, Judgement};
 use crate::reply::{CardState, CardView, Reply};
-use crate::statement::{judge_by, statement_of};
-use crate::tariff::Tariff;
-use crate::touch::{Act, Touch};
+use crate::touch::Touch;
+use fare_table::Fares;
+use money_time::Stamp;
 use std::alloc::{AllocError, Global};
 
 /// The most touches that a history has.
 pub const HISTORY_LIMIT: u32 = 1_000_000;
 
-/// The account of one card, which keeps its accepted acts and sums them from nothing at each
-/// judgement (docs/FARES.md, "A card and its history").
+/// The most bytes that a card takes: a station keeps 100,000 of them in memory.
+const CARD_SIZE: usize = 400;
+
+const _: () = prove!(size_of::<Card>() <= CARD_SIZE);
+
+/// The account of one card, which keeps running sums: a touch costs the same however many came
+/// before it (docs/FARES.md, "A card and its history").
 #[derive(Debug, Drop)]
 pub struct Card {
-    /// The acts that were accepted, oldest first.
-    acts: Vec<Act>,
     /// How many touches were applied, refused ones among them.
     count: u32,
+    /// What its accepted acts come to.
+    account: Account,
     /// What is seen of the card since the last touch.
     view: CardView,
-    ghost few: { vec_len acts ≤ count },
     ghost limited: { count ≤ HISTORY_LIMIT },
 }
 
 impl Card {
-    ghost use Rattle.std.specs.Prelude.{false, ◌≡◌, ◌<◌, ◌↔◌, ◌+◌, ◌++◌, ◌∷◌, ℕ, List, [], IsTrue, OnOk};
+    ghost use Rattle.std.specs.Prelude.{◌≡◌, ◌<◌, ◌↔◌, ◌+◌, ◌++◌, ◌∷◌, ◌≤ℤ◌, ℕ, pos};
+    ghost use Rattle.std.specs.Prelude.{false, List, [], IsTrue, Ok};
     ghost use Rattle.oyster_account.specs.declared.reply.Judged.{Judged};
-    ghost use Rattle.oyster_account.specs.Tariff.{Terms, terms_of};
+    ghost use Rattle.oyster_account.specs.Scheme.{Scheme, scheme_of};
     ghost use Rattle.oyster_account.specs.History.{accepted, is_accepted};
     ghost use Rattle.oyster_account.specs.Balance.{view};
     ghost use Rattle.oyster_account.specs.Judge.{judge};
+    ghost use Rattle.oyster_account.specs.Touch.{moment_of};
+    ghost use Rattle.oyster_account.specs.Verdict.{acceptance_code};
+    ghost use Rattle.oyster_account.specs.declared.verdict.Acceptance.TheVariants.{Exited};
     ghost use Rattle.oyster_account.specs.Standing.{StandsFor, HasRoom, touches_in};
 
-    /// A card that no touch was applied to: it stands for no touches, of any number and tariff.
-    pub fn vacant(alloc: Global) -> Card
-        ensures { (terms : Terms) (number : ℕ) → StandsFor terms number [] result }
+    /// A card that no touch was applied to: it stands for no touches, of any number and scheme.
+    pub fn vacant(_alloc: Global) -> Card
+        ensures { (scheme : Scheme) (number : ℕ) → StandsFor scheme number [] result }
     {
         Card {
-            acts: Vec::new(alloc),
             count: 0,
+            account: Account::none(),
             view: CardView {
                 state: CardState::Vacant,
                 balance: 0,
@@ -49,23 +58,22 @@ impl Card {
         }
     }
 
-    /// Makes room for one touch. Whatever it answers, the card stands for what it stood for.
-    ///
-    /// The error comes only where memory was refused.
+    /// Makes room for one touch: there always is, since a card keeps sums and no list.
     pub fn ready(&mut self) -> Result<(), AllocError>
-        ensures ok { OnOk result (HasRoom self.new) }
+        ensures ok { result ≡ Ok tt }
+        ensures room { HasRoom self.new }
         ensures count { touches_in self.new ≡ touches_in self.old }
-        ensures same { (terms : Terms) (number : ℕ) (history : List Judged)
-            → StandsFor terms number history self.old → StandsFor terms number history self.new }
+        ensures same { (scheme : Scheme) (number : ℕ) (history : List Judged)
+            → StandsFor scheme number history self.old → StandsFor scheme number history self.new }
     {
-        self.acts.reserve(1)
+        Ok(())
     }
 
     /// Whether one touch can be applied without memory.
     pub fn has_room(&self) -> bool
         ensures { IsTrue result ↔ HasRoom self.now }
     {
-        self.acts.len() < self.acts.capacity()
+        true
     }
 
     /// How many touches were applied, refused ones among them.
@@ -78,23 +86,35 @@ impl Card {
 
     /// The reply to a touch of this card, and what would be seen of the card after it.
     ///
-    /// The card's earlier touches were judged with the same tariff, had the same card number, and
-    /// are fewer than `HISTORY_LIMIT`. The reply is that of docs/FARES.md, "Verdicts".
-    pub fn judge(&self, tariff: &Tariff, touch: &Touch) -> (Reply, CardView)
+    /// The stamp is that of the touch's moment. The card's earlier touches were judged with the
+    /// same table, had the same card number, and are fewer than `HISTORY_LIMIT`. The reply is that
+    /// of docs/FARES.md, "Verdicts". It takes no memory.
+    pub fn judge(&self, fares: &Fares, touch: &Touch, stamp: &Stamp) -> (Reply, CardView)
         requires few { touches_in self.now < HISTORY_LIMIT }
-        requires stands { (history : List Judged) × StandsFor (terms_of tariff.now) touch.now.card history self.now }
-        ensures reply { (history : List Judged) → StandsFor (terms_of tariff.now) touch.now.card history self.now
-            → result.0 ≡ judge (terms_of tariff.now) (accepted touch.now.card history) touch.now.act }
-        ensures view { (history : List Judged) → StandsFor (terms_of tariff.now) touch.now.card history self.now
-            → result.1 ≡ view (terms_of tariff.now)
-            (accepted touch.now.card (history ++ record { touch = touch.now; reply = result.0 } ∷ [])) }
+        requires stamped { stamp.now ≡ (scheme_of fares.now).stamp (moment_of touch.now.act) }
+        requires stands { (history : List Judged)
+            × StandsFor (scheme_of fares.now) touch.now.card history self.now }
+        ensures reply { (history : List Judged)
+            → StandsFor (scheme_of fares.now) touch.now.card history self.now
+            → result.0 ≡ judge (scheme_of fares.now)
+            (accepted touch.now.card history) touch.now.act }
+        ensures view { (history : List Judged)
+            → StandsFor (scheme_of fares.now) touch.now.card history self.now
+            → result.1 ≡ view (scheme_of fares.now)
+            (accepted touch.now.card
+            (history ++ record { touch = touch.now; reply = result.0 } ∷ [])) }
 
         // A refused touch leaves what is seen of the card.
-        ensures refused { (history : List Judged) → StandsFor (terms_of tariff.now) touch.now.card history self.now
-            → is_accepted result.0 ≡ false → result.1 ≡ view (terms_of tariff.now) (accepted touch.now.card history) }
+        ensures refused { (history : List Judged)
+            → StandsFor (scheme_of fares.now) touch.now.card history self.now
+            → is_accepted result.0 ≡ false
+            → result.1 ≡ view (scheme_of fares.now) (accepted touch.now.card history) }
+
+        // A touch out that ends a leg takes nothing from the card.
+        ensures refund { result.0.verdict ≡ acceptance_code Exited → pos 0 ≤ℤ result.0.change }
     {
-        let statement = statement_of(tariff, &self.acts);
-        judge_by(tariff, &statement, touch.act)
+        let judgement = self.account.judge(fares, touch.act, stamp);
+        (judgement.reply, judgement.view)
     }
 
     /// Applies a touch, and answers its reply: the card then stands for the touches before it and
@@ -102,24 +122,23 @@ impl Card {
     ///
     /// The conditions are those of `judge`, and that there is room: `ready` makes it. It takes no
     /// memory.
-    pub fn apply(&mut self, tariff: &Tariff, touch: &Touch) -> Reply
+    pub fn apply(&mut self, fares: &Fares, touch: &Touch, stamp: &Stamp) -> Reply
         requires few { touches_in self.old < HISTORY_LIMIT }
+        requires stamped { stamp.now ≡ (scheme_of fares.now).stamp (moment_of touch.now.act) }
         requires room { HasRoom self.old }
-        requires stands { (history : List Judged) × StandsFor (terms_of tariff.now) touch.now.card history self.old }
-        ensures reply { (history : List Judged) → StandsFor (terms_of tariff.now) touch.now.card history self.old
-            → result ≡ judge (terms_of tariff.now) (accepted touch.now.card history) touch.now.act }
+        requires stands { (history : List Judged)
+            × StandsFor (scheme_of fares.now) touch.now.card history self.old }
+        ensures reply { (history : List Judged)
+            → StandsFor (scheme_of fares.now) touch.now.card history self.old
+            → result ≡ judge (scheme_of fares.now) (accepted touch.now.card history) touch.now.act }
         ensures count { touches_in self.new ≡ touches_in self.old + 1 }
-        ensures stands { (history : List Judged) → StandsFor (terms_of tariff.now) touch.now.card history self.old
-            → StandsFor (terms_of tariff.now) touch.now.card
+        ensures stands { (history : List Judged)
+            → StandsFor (scheme_of fares.now) touch.now.card history self.old
+            → StandsFor (scheme_of fares.now) touch.now.card
             (history ++ record { touch = touch.now; reply = result } ∷ []) self.new }
     {
-        let (reply, view) = self.judge(tariff, touch);
-        if reply.is_accepted() {
-            match self.acts.push(touch.act) {
-                Ok(()) => {}
-                Err(_) => unreachable!(),
-            }
-        }
+        let Judgement { reply, view } = self.account.judge(fares, touch.act, stamp);
+        self.account.take(fares, touch.act, stamp, &reply);
         self.count += 1;
         self.view = view;
         reply
@@ -127,8 +146,9 @@ impl Card {
 
     /// What is seen of the card: its state, and its balance in pence.
     pub fn view(&self) -> CardView
-        ensures { (terms : Terms) (number : ℕ) (history : List Judged) → StandsFor terms number history self.now
-            → result ≡ view terms (accepted number history) }
+        ensures { (scheme : Scheme) (number : ℕ) (history : List Judged)
+            → StandsFor scheme number history self.now
+            → result ≡ view scheme (accepted number history) }
     {
         // The last touch was judged with it.
         self.view

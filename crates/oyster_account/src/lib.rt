@@ -1,21 +1,27 @@
-//! The account of Oyster pay as you go: touches, replies, and a card that judges a touch by the
-//! whole list of the touches before it. Its main promise is that of `Card::judge` and
-//! `Card::apply`: verdict, change and balance are those that docs/FARES.md gives for that list.
+//! The account of Oyster pay as you go: touches, replies, and a card that keeps running sums. Its
+//! main promise is that of `Card::judge` and `Card::apply`: verdict, change and balance are those
+//! that docs/FARES.md gives for the whole list of the card's touches.
 #![tactic(auto)]
 
+mod account;
 mod card;
+mod journey;
+mod laws;
+mod refusal;
 mod reply;
-mod statement;
-mod tariff;
+mod totals;
 mod touch;
 mod travel;
+mod travels;
 mod verdict;
 
 pub use card::{Card, HISTORY_LIMIT};
+pub use journey::Journey;
+pub use laws::{incomplete_is_missing, journeys_are_rows, never_back, one_class, others_nothing};
+pub use refusal::TOP_UP_LIMIT;
 pub use reply::{CardState, CardView, Judged, Reply};
-pub use tariff::{PRICE_LIMIT, TOP_UP_LIMIT, Tariff};
 pub use touch::{Act, KIND_ENTER, KIND_ISSUE, KIND_LEAVE, KIND_TOP_UP, Touch};
-pub use travel::Passage;
+pub use travel::{Passage, SECONDS_PER_MINUTE};
 pub use verdict::{Acceptance, FIRST_REFUSAL, Refusal};
 
 #[cfg(test)]

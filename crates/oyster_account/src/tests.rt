@@ -1,19 +1,28 @@
-//! Worked examples of the account and of the touch's bytes, with the values of docs/FARES.md and
-//! docs/PROTOCOL.md.
+//! What no clause says: worked examples of the account and of the touch's bytes, with the values of
+//! docs/FARES.md and docs/PROTOCOL.md, and the comparison with a plain account.
 
 ghost use Rattle.std.specs.Prelude.{◌≡◌, ◌<◌, ◌+◌, List, length, OnOk};
 ghost use Rattle.oyster_account.specs.declared.reply.Judged.{Judged};
-ghost use Rattle.oyster_account.specs.Tariff.{terms_of};
+ghost use Rattle.oyster_account.specs.Scheme.{scheme_of};
 ghost use Rattle.oyster_account.specs.Standing.{StandsFor, touches_in};
 
+mod accounts;
+mod plain;
+mod wanderer;
+mod wide;
+
+use self::plain::{Answer, Plain};
+use self::wanderer::Wanderer;
+use self::wide::WIDE_TABLE;
 use super::*;
+use fare_table::Fares;
 use std::alloc::Global;
 use std::process::Abort;
 use std::test::Fail;
 
 /// An act of the card, the verdict, change and balance that it is to be answered with, and the
 /// state that the card is to have then.
-type Step = (Act, u8, i32, i64, CardState);
+type Step = (Act, u8, i64, i64, CardState);
 
 const VACANT: CardState = CardState::Vacant;
 
@@ -21,18 +30,27 @@ const OUTSIDE: CardState = CardState::Outside;
 
 const INSIDE: CardState = CardState::Inside;
 
-const fn enter(station: u16) -> Act {
-    Act::Enter {
-        station,
-        moment: 1_736_150_400,
-    }
+const ISSUE: Act = Act::Issue {
+    moment: 1_736_149_800,
+};
+
+const TOP_UP_2000: Act = Act::TopUp {
+    pence: 2000,
+    moment: 1_736_150_100,
+};
+
+/// A card with 2000 pence.
+const WITH_2000: [Step; 2] = [
+    (ISSUE, 8, 0, 0, OUTSIDE),
+    (TOP_UP_2000, 7, 2000, 2000, OUTSIDE),
+];
+
+const fn enter(station: u16, moment: u32) -> Act {
+    Act::Enter { station, moment }
 }
 
-const fn leave(station: u16) -> Act {
-    Act::Leave {
-        station,
-        moment: 1_736_151_900,
-    }
+const fn leave(station: u16, moment: u32) -> Act {
+    Act::Leave { station, moment }
 }
 
 const fn top_up(pence: u32) -> Act {
@@ -42,147 +60,204 @@ const fn top_up(pence: u32) -> Act {
     }
 }
 
-const ISSUE: Act = Act::Issue {
-    moment: 1_736_149_800,
-};
-
-/// Applies one act to a card of number 1, and compares the reply, foretold and given, and what is
-/// seen of the card.
-fn apply_one(rt: &impl Abort, tariff: &Tariff, card: &mut Card, step: Step) -> Result<(), Fail>
+/// Gives an act to a card of number 1, and to the plain account of it. What is foretold is what is
+/// given, and what the plain account says.
+fn give(
+    rt: &impl Abort,
+    fares: &Fares,
+    card: &mut Card,
+    plain: &mut Plain,
+    act: Act,
+) -> Result<Answer, Fail>
     requires few { touches_in card.old < 100 }
-    requires stands { (history : List Judged) × StandsFor (terms_of tariff.now) 1 history card.old }
+    requires stands { (history : List Judged) × StandsFor (scheme_of fares.now) 1 history card.old }
     ensures count { OnOk result (touches_in card.new ≡ touches_in card.old + 1) }
-    ensures stands { OnOk result ((history : List Judged) × StandsFor (terms_of tariff.now) 1 history card.new) }
+    ensures stands { OnOk result ((history : List Judged)
+        × StandsFor (scheme_of fares.now) 1 history card.new) }
 {
-    let (act, verdict, change, balance, state) = step;
     let touch = Touch {
         gate: 7,
         number: card.count(),
         card: 1,
         act,
     };
+    let stamp = fares.stamp(touch.moment())?;
     card.ready()?;
     assert!(rt; card.has_room());
-    let (foretold, seen) = card.judge(tariff, &touch);
-    let reply = card.apply(tariff, &touch);
+    let (foretold, seen) = card.judge(fares, &touch, &stamp);
+    let reply = card.apply(fares, &touch, &stamp);
+    assert_eq!(rt; foretold, reply, "at {act:?}");
+    assert_eq!(rt; card.view(), seen, "at {act:?}");
+    let answer = Answer {
+        verdict: reply.verdict,
+        change: i64::from(reply.change),
+        balance: reply.balance,
+        state: seen.state,
+    };
+    assert_eq!(rt; seen.balance, answer.balance, "at {act:?}");
     assert_eq!(rt;
-        reply,
-        Reply {
+        plain.give(fares, act, stamp)?,
+        answer,
+        "at {stamp:?} {act:?}"
+    );
+    Ok(answer)
+}
+
+/// Gives acts to a card of number 1 in turn, and compares the answers.
+fn go_on(
+    rt: &impl Abort,
+    fares: &Fares,
+    card: &mut Card,
+    plain: &mut Plain,
+    steps: &[Step],
+) -> Result<(), Fail>
+    requires few { touches_in card.old + length steps.now < 100 }
+    requires stands { (history : List Judged) × StandsFor (scheme_of fares.now) 1 history card.old }
+    ensures count { OnOk result (touches_in card.new ≡ touches_in card.old + length steps.now) }
+    ensures stands { OnOk result ((history : List Judged)
+        × StandsFor (scheme_of fares.now) 1 history card.new) }
+{
+    for step in steps {
+        let (act, verdict, change, balance, state) = *step;
+        let answer = give(rt, fares, card, plain, act)?;
+        let expected = Answer {
             verdict,
             change,
-            balance
-        },
-        "at {act:?}"
-    );
-    assert_eq!(rt; foretold, reply);
-    assert_eq!(rt; card.view(), seen);
-    assert_eq!(rt; card.view(), CardView { state, balance });
+            balance,
+            state,
+        };
+        assert_eq!(rt; answer, expected, "at {act:?}");
+    }
     Ok(())
 }
 
-/// Applies the acts to a card of number 1 in turn.
-fn play(rt: &impl Abort, alloc: Global, steps: &[Step]) -> Result<(), Fail>
-    requires { length steps.now < 100 }
+/// Plays a row on a card of its own, after its first steps.
+fn play_row(
+    rt: &impl Abort,
+    alloc: Global,
+    fares: &Fares,
+    first: &[Step],
+    row: &[Step],
+) -> Result<(), Fail>
+    requires first { length first.now < 10 }
+    requires row { length row.now < 80 }
 {
-    let tariff = Tariff::example();
     let mut card = Card::vacant(alloc);
-    for step in steps {
-        apply_one(rt, &tariff, &mut card, *step)?;
+    let mut plain = Plain::new(alloc);
+    go_on(rt, fares, &mut card, &mut plain, first)?;
+    go_on(rt, fares, &mut card, &mut plain, row)?;
+    assert_eq!(rt; card.count() as usize, first.len() + row.len());
+    Ok(())
+}
+
+/// Plays each row on a card of its own, after the same first steps.
+fn play(
+    rt: &impl Abort,
+    alloc: Global,
+    table: &str,
+    first: &[Step],
+    rows: &[&[Step]],
+) -> Result<(), Fail> {
+    let fares = Fares::read(alloc, table)?;
+    assert!(rt; first.len() < 10);
+    for row in rows {
+        let row: &[Step] = row;
+        assert!(rt; row.len() < 80);
+        play_row(rt, alloc, &fares, first, row)?;
     }
-    assert_eq!(rt; card.count() as usize, steps.len());
+    Ok(())
+}
+
+/// Gives fifty acts of a generator to a card of number 1.
+fn wander(
+    rt: &impl Abort,
+    alloc: Global,
+    fares: &Fares,
+    wanderer: &mut Wanderer,
+) -> Result<(), Fail> {
+    let mut card = Card::vacant(alloc);
+    let mut plain = Plain::new(alloc);
+    for touch in 0..50u32 {
+        let act = wanderer.next(touch);
+        let answer = give(rt, fares, &mut card, &mut plain, act)?;
+        wanderer.note(answer.verdict);
+    }
     Ok(())
 }
 
 #[test]
-fn a_card_keeps_its_account(rt: HostRuntime) -> Result<(), Fail> {
-    let rows: [&[Step]; 9] = [
-        // A journey takes the maximum at the touch in, and gives back what is over its fare.
-        &[
-            (ISSUE, 8, 0, 0, OUTSIDE),
-            (top_up(2000), 7, 2000, 2000, OUTSIDE),
-            (enter(2), 1, -900, 1100, INSIDE),
-            (leave(1), 4, 550, 1650, OUTSIDE),
-        ],
-        // A touch out with no touch in costs the maximum, and the next touch in isn't hindered.
-        &[
-            (ISSUE, 8, 0, 0, OUTSIDE),
-            (top_up(2000), 7, 2000, 2000, OUTSIDE),
-            (leave(1), 5, -900, 1100, OUTSIDE),
-            (enter(4), 1, -900, 200, INSIDE),
-        ],
-        // A touch in over an open one leaves that one unfinished.
-        &[
-            (ISSUE, 8, 0, 0, OUTSIDE),
-            (top_up(2000), 7, 2000, 2000, OUTSIDE),
-            (enter(2), 1, -900, 1100, INSIDE),
-            (enter(2), 3, -900, 200, INSIDE),
-            (leave(1), 4, 550, 750, OUTSIDE),
-        ],
-        // A touch in asks for the entry minimum, and may take the balance below 0.
-        &[
-            (ISSUE, 8, 0, 0, OUTSIDE),
-            (top_up(189), 7, 189, 189, OUTSIDE),
-            (enter(2), 24, 0, 189, OUTSIDE),
-            (top_up(1), 7, 1, 190, OUTSIDE),
-            (enter(2), 1, -900, -710, INSIDE),
-        ],
-        // One top-up is from 1 to 50000, and the balance stays within 9000.
-        &[
-            (ISSUE, 8, 0, 0, OUTSIDE),
-            (top_up(9001), 26, 0, 0, OUTSIDE),
-            (top_up(50_000), 26, 0, 0, OUTSIDE),
-            (top_up(50_001), 25, 0, 0, OUTSIDE),
-            (top_up(0), 25, 0, 0, OUTSIDE),
-            (top_up(9000), 7, 9000, 9000, OUTSIDE),
-            (top_up(1), 26, 0, 9000, OUTSIDE),
-            (ISSUE, 21, 0, 9000, OUTSIDE),
-            (enter(9), 22, 0, 9000, OUTSIDE),
-        ],
-        // Nothing is done with a card that wasn't issued.
-        &[
-            (enter(9), 20, 0, 0, VACANT),
-            (top_up(100), 20, 0, 0, VACANT),
-            (leave(1), 20, 0, 0, VACANT),
-            (ISSUE, 8, 0, 0, OUTSIDE),
-        ],
-        // Two journeys in turn, the second within one zone.
-        &[
-            (ISSUE, 8, 0, 0, OUTSIDE),
-            (top_up(2000), 7, 2000, 2000, OUTSIDE),
-            (enter(1), 1, -900, 1100, INSIDE),
-            (leave(3), 4, 500, 1600, OUTSIDE),
-            (enter(3), 1, -900, 700, INSIDE),
-            (leave(3), 4, 690, 1390, OUTSIDE),
-        ],
-        // Two touches out in turn: the second has no touch in.
-        &[
-            (ISSUE, 8, 0, 0, OUTSIDE),
-            (top_up(2000), 7, 2000, 2000, OUTSIDE),
-            (enter(1), 1, -900, 1100, INSIDE),
-            (leave(4), 4, 600, 1700, OUTSIDE),
-            (leave(4), 5, -900, 800, OUTSIDE),
-        ],
-        // The first refusal in the order of the codes is the verdict.
-        &[
-            (enter(9), 20, 0, 0, VACANT),
-            (ISSUE, 8, 0, 0, OUTSIDE),
-            (enter(9), 22, 0, 0, OUTSIDE),
-            (enter(1), 24, 0, 0, OUTSIDE),
-        ],
+fn a_card_answers_as_a_plain_account_does(rt: HostRuntime) -> Result<(), Fail> {
+    let alloc = rt.alloc();
+    let fares = Fares::read(alloc, WIDE_TABLE)?;
+    let mut wanderer = Wanderer::new();
+    for _ in 0..100 {
+        wander(&rt, alloc, &fares, &mut wanderer)?;
+        wanderer.turn_to_another_card();
+    }
+    // Every verdict was given but that of a table with no such card.
+    for verdict in [1, 2, 3, 4, 5, 6, 7, 8, 20, 21, 22, 23, 24, 25, 26] {
+        assert!(rt; wanderer.has_noted(verdict), "verdict {verdict}");
+    }
+    Ok(())
+}
+
+#[test]
+fn a_clock_that_goes_back_makes_an_earlier_fare_day(rt: HostRuntime) -> Result<(), Fail> {
+    // On Sunday 2025-10-26 the clock shows 04:50, then 04:10 of the fare day before, then 04:35.
+    let row = [
+        (enter(1, 1_761_450_600), 1, -900, 1100, INSIDE),
+        (leave(2, 1_761_451_800), 23, 0, 1100, INSIDE),
+        (enter(2, 1_761_451_800), 23, 0, 1100, INSIDE),
+        (leave(2, 1_761_453_300), 4, 610, 1710, OUTSIDE),
     ];
-    for steps in rows {
-        assert!(rt; steps.len() < 100);
-        play(&rt, rt.alloc(), steps)?;
-    }
-    Ok(())
+    play(&rt, rt.alloc(), WIDE_TABLE, &WITH_2000, &[&row])
 }
 
 #[test]
-fn a_tariff_and_the_reply_for_no_card_have_their_values(rt: HostRuntime) {
-    let tariff = Tariff::example();
-    assert_eq!(rt; tariff.maximum(), 900);
-    assert_eq!(rt; tariff.entry_minimum(), 190);
-    assert_eq!(rt; tariff.balance_limit(), 9000);
+fn a_reply_has_the_code_of_its_verdict(rt: HostRuntime) {
+    let accepted = [
+        Acceptance::Entered,
+        Acceptance::EnteredContinued,
+        Acceptance::EnteredOverOpen,
+        Acceptance::Exited,
+        Acceptance::ExitedUnstarted,
+        Acceptance::ExitedLate,
+        Acceptance::ToppedUp,
+        Acceptance::Issued,
+    ];
+    for (acceptance, verdict) in accepted.into_iter().zip(1..=8) {
+        let reply = Reply::granted(acceptance, 1000, 100);
+        assert_eq!(rt;
+            reply,
+            Reply {
+                verdict,
+                change: -900,
+                balance: 100
+            }
+        );
+        assert!(rt; reply.is_accepted());
+    }
+    let refused = [
+        Refusal::UnknownCard,
+        Refusal::AlreadyIssued,
+        Refusal::UnknownStation,
+        Refusal::Backwards,
+        Refusal::LowBalance,
+        Refusal::BadAmount,
+        Refusal::OverLimit,
+    ];
+    for (refusal, verdict) in refused.into_iter().zip(20..=26) {
+        let reply = Reply::refused(refusal, -710);
+        assert_eq!(rt;
+            reply,
+            Reply {
+                verdict,
+                change: 0,
+                balance: -710
+            }
+        );
+        assert!(rt; !reply.is_accepted());
+    }
     assert_eq!(rt;
         Reply::unknown_card(),
         Reply {
@@ -191,20 +266,6 @@ fn a_tariff_and_the_reply_for_no_card_have_their_values(rt: HostRuntime) {
             balance: 0
         }
     );
-    assert!(rt; !tariff.knows(0) && !tariff.knows(5) && !tariff.knows(9));
-    for (from, to, pence) in [
-        (1, 1, 300),
-        (2, 1, 350),
-        (1, 2, 350),
-        (4, 3, 400),
-        (2, 2, 210),
-        (3, 2, 240),
-        (3, 3, 210),
-        (2, 4, 350),
-    ] {
-        assert!(rt; tariff.knows(from) && tariff.knows(to));
-        assert_eq!(rt; tariff.fare(from, to), pence, "from {from} to {to}");
-    }
 }
 
 #[test]
@@ -229,14 +290,14 @@ fn a_touch_has_its_bytes_and_is_read_from_them(rt: HostRuntime) {
             ],
         ),
         (
-            touch(3, enter(2)),
+            touch(3, enter(2, 1_736_150_400)),
             1_736_150_400,
             &[
                 1, 0, 7, 0, 0, 0, 3, 0, 0, 0, 1, 0, 2, 0x67, 0x7b, 0x8d, 0x80,
             ],
         ),
         (
-            touch(4, leave(1)),
+            touch(4, leave(1, 1_736_151_900)),
             1_736_151_900,
             &[
                 2, 0, 7, 0, 0, 0, 4, 0, 0, 0, 1, 0, 1, 0x67, 0x7b, 0x93, 0x5c,

@@ -1,10 +1,60 @@
 //! A card's passages of the gates.
 
+ghost use Rattle.std.specs.Prelude.{◌≡◌, IsSome};
+ghost use Rattle.fare_table.specs.Fare.{station_at};
+ghost use Rattle.fare_table.specs.Fares.{content_of};
+ghost use Rattle.oyster_account.specs.Scheme.{scheme_of};
+ghost use Rattle.oyster_account.specs.Leg.{is_within_minutes, is_in_time};
+ghost use Rattle.oyster_account.specs.Journey.{is_change};
+ghost use Rattle.oyster_account.specs.Refusal.{is_before};
+
+use fare_table::Fares;
+use money_time::Stamp;
+
+/// The seconds of a minute: legs and changes are limited in minutes, and moments are in seconds.
+pub const SECONDS_PER_MINUTE: u32 = 60;
+
 /// Where and when a card was touched in or out.
-///
-/// `moment` is in seconds since 1970-01-01 00:00:00 UTC.
 #[derive(Clone, Copy, Debug, PartialEq, Eq)]
 pub struct Passage {
     pub station: u16,
-    pub moment: u32,
+    pub stamp: Stamp,
+}
+
+impl Passage {
+    /// Whether a later passage comes at most these minutes after this one.
+    fn is_within_minutes(self, minutes: u32, later: Passage) -> bool
+        ensures { result ≡ is_within_minutes minutes self later }
+    {
+        let limit = u64::from(minutes) * u64::from(SECONDS_PER_MINUTE);
+        u64::from(later.stamp.moment) <= u64::from(self.stamp.moment) + limit
+    }
+
+    /// Whether a touch out comes within the limit of a leg from this touch in. Both stations are
+    /// known.
+    pub(crate) fn is_in_time(self, fares: &Fares, finish: Passage) -> bool
+        requires start { IsSome (station_at (content_of fares.now) self.station) }
+        requires finish { IsSome (station_at (content_of fares.now) finish.station) }
+        ensures { result ≡ is_in_time (scheme_of fares.now) self finish }
+    {
+        let minutes = fares.leg_minutes(self.station, finish.station);
+        self.is_within_minutes(minutes, finish)
+    }
+
+    /// Whether a touch in after this touch out is an interchange.
+    pub(crate) fn is_change(self, fares: &Fares, start: Passage) -> bool
+        ensures { result ≡ is_change (scheme_of fares.now) self start }
+    {
+        match fares.interchange(self.station, start.station) {
+            Some(minutes) => self.is_within_minutes(minutes, start),
+            None => false,
+        }
+    }
+
+    /// Whether a later passage has a moment or a fare day below this one's.
+    pub(crate) fn is_before(self, later: Passage) -> bool
+        ensures { result ≡ is_before self later }
+    {
+        later.stamp.moment < self.stamp.moment || later.stamp.day < self.stamp.day
+    }
 }

@@ -1,13 +1,42 @@
-use Rattle.std.proofs.Common.{List, sym, subst}
-use Rattle.std.specs.List.{All}
-use Rattle.oyster_account.specs.declared.touch.Act.{Act}
-use Rattle.oyster_account.specs.Tariff.{terms_of}
-use Rattle.oyster_account.specs.Statement.{IsSound}
-use Rattle.oyster_account.proofs.HistoryLemmas.{stands_sound}
+use Rattle.std.proofs.Common.{◌≡◌, pos, ◌≤ℤ◌, sym, ap, ◌∙◌, subst, refl}
+use Rattle.oyster_account.specs.declared.reply.Reply.{Reply}
+use Rattle.oyster_account.specs.Scheme.{scheme_of}
+use Rattle.oyster_account.specs.History.{accepted}
+use Rattle.oyster_account.specs.Balance.{view}
+use Rattle.std.specs.Prelude.{◌∷◌, if◌then◌else◌}
+use Rattle.oyster_account.proofs.AccountLemmas.{fares-priced, judge-refund}
+use Rattle.oyster_account.proofs.StandingLemmas.{stands-in_order, view-after}
 use Rattle.oyster_account.proofs.card.Card.judge.Goals as goal
 
--- The acts that the card keeps were accepted, so their stations are known and their amounts are right.
-pub statement_of-statement-requires-clause-sound : goal.statement_of-statement-requires-clause-sound
-statement_of-statement-requires-clause-sound c =
-    let P : List Act → Type 0 = λ acts. All (IsSound (terms_of c.args.tariff.now)) acts in
-    subst P (sym c.deref.ensures.value) (stands_sound _ _ _ _ c.requires.stands.1)
+-- The account is that of the accepted acts of the card's history, whose travel is in order.
+pub judge-judgement-requires-clause-stands : goal.judge-judgement-requires-clause-stands
+judge-judgement-requires-clause-stands c =
+    let stands = c.requires.stands.1 in
+    (accepted c.args.touch.now.card c.requires.stands.0, stands-in_order _ _ _ _ stands, stands.account)
+
+pub returns-clause-reply : goal.returns-clause-reply
+returns-clause-reply c history stands =
+    (c.judge-judgement.ensures.of _ (stands-in_order _ _ _ _ stands) stands.account).reply
+
+pub returns-clause-view : goal.returns-clause-view
+returns-clause-view c history stands =
+    view-after _ _ _ _ stands (record { touch = c.args.touch.now; reply = c.judge-judgement.result.reply }) refl
+    c.judge-judgement.result
+    (c.judge-judgement.ensures.of _ (stands-in_order _ _ _ _ stands) stands.account) refl
+
+-- A refused touch leaves the accepted acts.
+pub returns-clause-refused : goal.returns-clause-refused
+returns-clause-refused c history stands refused =
+    (c.judge-judgement.ensures.of _ (stands-in_order _ _ _ _ stands) stands.account).view
+    ∙ ap (λ b. view (scheme_of c.args.fares.now)
+    (if b then c.args.touch.now.act ∷ accepted c.args.touch.now.card history else accepted c.args.touch.now.card
+    history)) refused
+
+-- A touch out that ends a leg takes nothing from the card.
+pub returns-clause-refund : goal.returns-clause-refund
+returns-clause-refund c =
+    let stands = c.requires.stands.1 in
+    let is = c.judge-judgement.ensures.of _ (stands-in_order _ _ _ _ stands) stands.account in
+    subst (λ (r : Reply). r.verdict ≡ 4 → pos 0 ≤ℤ r.change) (sym is.reply)
+    (judge-refund (scheme_of c.args.fares.now) (fares-priced c.args.fares.now)
+    (accepted c.args.touch.now.card c.requires.stands.0) c.args.touch.now.act)

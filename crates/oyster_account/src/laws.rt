@@ -1,0 +1,33 @@
+//! Laws of the account's definitions, each the contract of a call that does nothing.
+
+ghost use Rattle.oyster_account.specs.Classes.{IsInOneClass, IsIncompleteMissing};
+ghost use Rattle.oyster_account.specs.Rows.{AreJourneysRows};
+ghost use Rattle.oyster_account.specs.Laws.{NeverGoesBack, AreOthersNothing};
+
+/// Each touch in or out begins a leg, ends one, or misses its other end: as an unfinished touch in,
+/// a late touch out or an unstarted one. It is in exactly one of these classes.
+pub fn one_class()
+    ensures { IsInOneClass }
+{}
+
+/// Beside its journeys a card is charged for its unfinished, late and unstarted touches, and for no
+/// others.
+pub fn incomplete_is_missing()
+    ensures { IsIncompleteMissing }
+{}
+
+/// A card's journeys are its legs, cut into the longest rows of which each leg but the first begins
+/// with a touch in that continues.
+pub fn journeys_are_rows()
+    ensures { AreJourneysRows }
+{}
+
+/// A card's accepted travel never goes back, neither in its moments nor in its fare days.
+pub fn never_back()
+    ensures { NeverGoesBack }
+{}
+
+/// Another card's touches change nothing of a card.
+pub fn others_nothing()
+    ensures { AreOthersNothing }
+{}
