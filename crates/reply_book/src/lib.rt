@@ -1,0 +1,18 @@
+//! The book of a station: each touch once with its first reply, oldest first, and the cards that
+//! these touches made. Its main promise is that of `Book::add`: the book stays a legal history, in
+//! which no gate and number stands twice and each reply is the account's judgement at that point.
+#![tactic(auto)]
+
+mod book;
+mod entry;
+mod fault;
+mod laws;
+mod replay;
+
+pub use book::{Book, CARD_LIMIT};
+pub use entry::{Entry, Found};
+pub use fault::ReplayFault;
+pub use laws::{books_grow, finds_exactly, first_for_ever, one_book};
+
+#[cfg(test)]
+mod tests;
