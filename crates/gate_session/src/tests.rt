@@ -1,58 +1,27 @@
 //! Frames worked out by hand, and a feed that is given them in pieces.
 
+mod fakes;
+mod sessions;
+mod vectors;
+
 use super::*;
-use oyster_account::{Act, CardState, CardView, Reply, Touch};
-use std::alloc::AllocError;
+use oyster_account::{CardState, CardView, Reply};
+use std::alloc::{AllocError, Global};
 use std::process::Abort;
 use std::test::Fail;
+use vectors::{ANSWERS, BAD_FRAME, FRAMES, requests};
 
-/// A card's first morning: issued, topped up by 2000 pence, in at station 2, out at station 1, and
-/// then an enquiry.
-const FRAMES: [&[u8]; 5] = [
-    b"\x00\x0f\x04\x00\x07\x00\x00\x00\x01\x00\x00\x00\x01\x67\x7b\x8b\x28",
-    b"\x00\x13\x03\x00\x07\x00\x00\x00\x02\x00\x00\x00\x01\x00\x00\x07\xd0\x67\x7b\x8c\x54",
-    b"\x00\x11\x01\x00\x07\x00\x00\x00\x03\x00\x00\x00\x01\x00\x02\x67\x7b\x8d\x80",
-    b"\x00\x11\x02\x00\x07\x00\x00\x00\x04\x00\x00\x00\x01\x00\x01\x67\x7b\x93\x5c",
-    b"\x00\x05\x05\x00\x00\x00\x01",
-];
+/// The reply to touch number 5 of gate 7: in, change -900, balance -710.
+const BELOW_ZERO: &[u8] =
+    b"\x00\x14\x81\x00\x07\x00\x00\x00\x05\x01\xff\xff\xfc\x7c\xff\xff\xff\xff\xff\xff\xfd\x3a";
 
-/// The touch of gate 7 and this number on card 1.
-fn touch(number: u32, act: Act) -> Request {
-    Request::Touch(Touch {
-        gate: 7,
-        number,
-        card: 1,
-        act,
-    })
-}
-
-/// The requests of `FRAMES`.
-fn requests() -> [Request; 5] {
-    [
-        touch(1, Act::Issue { moment: 1736149800 }),
-        touch(
-            2,
-            Act::TopUp {
-                pence: 2000,
-                moment: 1736150100,
-            },
-        ),
-        touch(
-            3,
-            Act::Enter {
-                station: 2,
-                moment: 1736150400,
-            },
-        ),
-        touch(
-            4,
-            Act::Leave {
-                station: 1,
-                moment: 1736151900,
-            },
-        ),
-        Request::Enquire(1),
-    ]
+/// These bytes, one behind the other.
+fn joined(alloc: Global, parts: &[&[u8]]) -> Result<Vec<u8>, AllocError> {
+    let mut bytes = Vec::new(alloc);
+    for part in parts {
+        bytes.extend_from_slice(part)?;
+    }
+    Ok(bytes)
 }
 
 /// What a fresh feed says of these bytes.
@@ -75,7 +44,10 @@ fn a_beginning_wants_more_and_a_frame_is_its_request(rt: HostRuntime) -> Result<
         assert_eq!(rt; feed.next(), Step::More);
         assert_eq!(rt; Request::read(frame), Some((*request, frame.len())));
         assert_eq!(rt; Request::read_whole(frame), Some(*request));
-        assert_eq!(rt; front_of(frame), Front::Whole(*request, frame.len()));
+        assert_eq!(rt;
+            first_frame(frame),
+            FirstFrame::Whole(*request, frame.len())
+        );
     }
     Ok(())
 }
@@ -128,10 +100,7 @@ fn take_all(rt: &impl Abort, feed: &mut Feed, want: &[Request], place: usize) ->
 #[test]
 fn a_stream_cut_anywhere_has_the_same_requests(rt: HostRuntime) -> Result<(), Fail> {
     let want = requests();
-    let mut stream = Vec::new(rt.alloc());
-    for frame in &FRAMES {
-        stream.extend_from_slice(frame)?;
-    }
+    let mut stream = joined(rt.alloc(), &FRAMES)?;
     assert_eq!(rt; stream.len(), 83);
     assert_eq!(rt; stream_length(&stream), 83);
     for cut in 0..=83usize {
@@ -178,30 +147,12 @@ fn answers_are_these_bytes(rt: HostRuntime) {
         number,
     };
     let cases: [(Answer, &[u8]); 13] = [
-        (
-            reply(1, 8, 0, 0),
-            b"\x00\x14\x81\x00\x07\x00\x00\x00\x01\x08\x00\x00\x00\x00\x00\x00\x00\x00\x00\x00\x00\x00",
-        ),
-        (
-            reply(2, 7, 2000, 2000),
-            b"\x00\x14\x81\x00\x07\x00\x00\x00\x02\x07\x00\x00\x07\xd0\x00\x00\x00\x00\x00\x00\x07\xd0",
-        ),
-        (
-            reply(3, 1, -900, 1100),
-            b"\x00\x14\x81\x00\x07\x00\x00\x00\x03\x01\xff\xff\xfc\x7c\x00\x00\x00\x00\x00\x00\x04\x4c",
-        ),
-        (
-            reply(4, 4, 550, 1650),
-            b"\x00\x14\x81\x00\x07\x00\x00\x00\x04\x04\x00\x00\x02\x26\x00\x00\x00\x00\x00\x00\x06\x72",
-        ),
-        (
-            reply(5, 1, -900, -710),
-            b"\x00\x14\x81\x00\x07\x00\x00\x00\x05\x01\xff\xff\xfc\x7c\xff\xff\xff\xff\xff\xff\xfd\x3a",
-        ),
-        (
-            holding(CardState::Outside, 1650),
-            b"\x00\x0e\x85\x01\x00\x00\x00\x00\x00\x00\x06\x72\x00\x00\x00\x04",
-        ),
+        (reply(1, 8, 0, 0), ANSWERS[0]),
+        (reply(2, 7, 2000, 2000), ANSWERS[1]),
+        (reply(3, 1, -900, 1100), ANSWERS[2]),
+        (reply(4, 4, 550, 1650), ANSWERS[3]),
+        (reply(5, 1, -900, -710), BELOW_ZERO),
+        (holding(CardState::Outside, 1650), ANSWERS[4]),
         (
             holding(CardState::Vacant, 0),
             b"\x00\x0e\x85\x00\x00\x00\x00\x00\x00\x00\x00\x00\x00\x00\x00\x04",
@@ -210,10 +161,7 @@ fn answers_are_these_bytes(rt: HostRuntime) {
             holding(CardState::Inside, 1100),
             b"\x00\x0e\x85\x02\x00\x00\x00\x00\x00\x00\x04\x4c\x00\x00\x00\x04",
         ),
-        (
-            fault(FaultCode::BadFrame, 0, 0),
-            b"\x00\x08\xff\x01\x00\x00\x00\x00\x00\x00",
-        ),
+        (fault(FaultCode::BadFrame, 0, 0), BAD_FRAME),
         (
             fault(FaultCode::Conflict, 7, 4),
             b"\x00\x08\xff\x02\x00\x07\x00\x00\x00\x04",
@@ -235,6 +183,6 @@ fn answers_are_these_bytes(rt: HostRuntime) {
         let mut out = [0; 22];
         let size = answer.write_into(&mut out);
         assert_eq!(rt; out.get(..size), Some(*bytes), "{answer:?}");
-        assert_eq!(rt; front_of(bytes), Front::Bad);
+        assert_eq!(rt; first_frame(bytes), FirstFrame::Bad);
     }
 }
