@@ -1,0 +1,76 @@
+-- What contracts see of a publisher, and what holds of it (docs/ENQUIRIES.md; this
+-- project's choice).
+use Rattle.std.specs.Prelude.{◌≡◌, ◌⊎◌, ℕ, ◌+◌, ◌≤◌, true, Bool, List, [], ◌∷◌, length, map}
+use Rattle.std.specs.Prelude.{Option, Some, slice_get}
+use Rattle.logbook.specs.Pages.{Book as Logbook}
+use Rattle.fare_table.specs.declared.fares.Fares.{Fares}
+use Rattle.oyster_account.specs.declared.touch.Touch.{Touch}
+use Rattle.oyster_account.specs.declared.reply.CardView.{CardView}
+use Rattle.oyster_account.specs.Scheme.{Scheme, scheme_of}
+use Rattle.oyster_account.specs.Judge.{judge_touch}
+use Rattle.reply_book.specs.declared.entry.Entry.{Entry}
+use Rattle.reply_book.specs.declared.book.Book.{Book}
+use Rattle.reply_book.specs.Book.{entries_of, cards_of, Stands}
+use Rattle.reply_book.specs.Legal.{history_of}
+use Rattle.reply_book.specs.View.{view_after}
+use Rattle.tap_desk.specs.declared.shown.Published.{Published}
+use Rattle.tap_desk.specs.declared.shown.Update.{Update}
+use Rattle.tap_desk.specs.declared.story.Story.{Story}
+use Rattle.tap_desk.specs.declared.writer.HeldWriter.{HeldWriter}
+use Rattle.tap_desk.specs.Story.{told, table_of}
+use Rattle.tap_desk.specs.Pages.{list_of, IsOf}
+use Rattle.tap_desk.specs.Waiting.{shown_of, waits_of, seen_of, OneWaits}
+
+-- the list that is published, and the lists that wait to be
+pub record Publication : Type 0 where
+  pub list : List Entry
+  pub waiting : List (List Entry)
+
+-- the lists of the updates
+abbrev pub lists_of : List Update → List (List Entry)
+lists_of updates = map (λ update. list_of update.page) updates
+
+-- the entry that a touch from a seat comes to after those of the book
+abbrev pub entry_after : Scheme → Book → Touch → ℕ → Entry
+entry_after scheme book touch seat = record {
+  touch = touch;
+  reply = judge_touch scheme (cards_of book) (history_of (entries_of book)) touch;
+  seat = seat;
+}
+
+-- the table and the number of cards are those by which the book stands
+pub record IsTableOf (table : Option (Fares × ℕ)) (book : Book) : Type 0 where
+  pub fares : Fares
+  pub is : table ≡ Some (fares, cards_of book)
+  pub stands : Stands (scheme_of fares) book
+
+-- each view is what is seen in the book of the card of that place
+abbrev pub IsEachViewOf : Book → List CardView → Type 0
+IsEachViewOf book views =
+    (scheme : Scheme) (place : ℕ) (view : CardView) → Stands scheme book
+    → slice_get views place ≡ Some view
+    → view ≡ view_after scheme (cards_of book) (history_of (entries_of book)) (place + 1)
+
+-- there is a view for each card of the book, and it is what is seen of that card
+pub record AreViewsOf (book : Book) (views : List CardView) : Type 0 where
+  pub count : length views ≡ cards_of book
+  pub each : IsEachViewOf book views
+
+-- one update waits, and is of the named story where the publisher is
+pub record IsStaged (shown : Published) (named : Bool) (waiting : List Update) : Type 0 where
+  pub one : OneWaits shown waiting
+  pub named_too : named ≡ true → one.update.page.named ≡ true
+
+-- the story tells what is shown, by the table of the name, and where it is the named one, it is the
+-- name's and the page's; its steps are no more than the entries; the writer saw what is shown; and
+-- nothing waits, or one update
+pub record IsPublished (logbook : Logbook) (table : Option (Fares × ℕ)) (held : HeldWriter)
+    (story : Story) (named : Bool) : Type 0 where
+  pub tells : told story.seen.log ≡ list_of (shown_of held).page
+  pub by : table_of story.seen.log ≡ table
+  pub page : IsOf logbook table (shown_of held).page
+  pub is_named :
+      named ≡ true → (story.seen.book ≡ logbook) × ((shown_of held).page.named ≡ true)
+  pub steps : story.steps ≤ length (told story.seen.log)
+  pub saw : seen_of held ≡ (shown_of held).page ∷ []
+  pub waits : (waits_of held ≡ []) ⊎ IsStaged (shown_of held) named (waits_of held)

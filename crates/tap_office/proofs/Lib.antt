@@ -1,0 +1,8 @@
+pub mod CountingLemmas
+pub mod FindingLemmas
+pub mod KeeperLemmas
+pub mod OpeningLemmas
+pub mod PowerLemmas
+pub mod RoundLemmas
+pub mod SettlingLemmas
+pub mod Sending

@@ -1,0 +1,12 @@
+-- The numbers of the faults of a touch in a fault frame (docs/PROTOCOL.md, "Faults"; this project's
+-- choice).
+use Rattle.std.specs.Prelude.{ℕ}
+use Rattle.tap_office.specs.declared.fault.SubmitFault.{SubmitFault}
+use Rattle.tap_office.specs.declared.fault.SubmitFault.TheVariants.{Conflict, Halted, Memory, Full}
+
+-- a conflict is 2, a halted office 3, refused memory 4 and a full journal 5
+abbrev pub fault_code : SubmitFault → ℕ
+fault_code Conflict = 2
+fault_code Halted = 3
+fault_code Memory = 4
+fault_code Full = 5

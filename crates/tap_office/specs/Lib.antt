@@ -1,0 +1,9 @@
+pub mod Fault
+pub mod Name
+pub mod Seat
+pub mod Receipt
+pub mod Keeper
+pub mod Close
+pub mod Opening
+pub mod Enquiry
+pub mod Rounds

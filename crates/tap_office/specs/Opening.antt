@@ -1,0 +1,138 @@
+-- What contracts see of an opening, and of the seats that it makes (docs/OFFICE.md, "An opening";
+-- this project's choice).
+use Rattle.std.specs.Prelude.{◌≡◌, ◌⊎◌, ℕ, ◌+◌, ◌≤◌, ◌<◌, List, [], length, false, Some}
+use Rattle.std.specs.Prelude.{Result, Ok, Err, slice_index_or}
+use Rattle.std.specs.List.{All}
+use Rattle.logbook.specs.Pages.{Book as Logbook}
+use Rattle.fare_table.specs.declared.fares.Fares.{Fares}
+use Rattle.fare_table.specs.Fares.{digest_of}
+use Rattle.oyster_account.specs.declared.touch.Touch.{Touch}
+use Rattle.oyster_account.specs.declared.card.TheConstants.{HISTORY_LIMIT}
+use Rattle.oyster_account.specs.Scheme.{scheme_of}
+use Rattle.tap_disk.specs.declared.disk.Disk.{Ghosts}
+use Rattle.tap_journal.specs.declared.journal.Journal.{Journal}
+use Rattle.tap_journal.specs.declared.fault.JournalFault.{JournalFault}
+use Rattle.tap_journal.specs.declared.fault.JournalFault.TheVariants.{Memory, Device, Damaged, NoDesk}
+use Rattle.tap_journal.specs.declared.fault.OpenFault.{OpenFault}
+use Rattle.tap_journal.specs.Layout.{Header, header_of}
+use Rattle.tap_journal.specs.Image.{Image}
+use Rattle.tap_journal.specs.Opening.{HasCause}
+use Rattle.tap_journal.specs.Crash.{Stands, capacity_of, is_stopped}
+use Rattle.reply_book.specs.declared.entry.Entry.{Entry}
+use Rattle.reply_book.specs.declared.book.Book.{Book}
+use Rattle.reply_book.specs.declared.book.TheConstants.{CARD_LIMIT}
+use Rattle.reply_book.specs.Names.{IsFirstRepeat}
+use Rattle.reply_book.specs.Book.{entries_of, cards_of, Stands as BookStands}
+use Rattle.reply_book.specs.Legal.{touches_of, history_of, IsLegal}
+use Rattle.tap_desk.specs.declared.story.Story.{Story}
+use Rattle.tap_desk.specs.Story.{told, table_of}
+use Rattle.tap_desk.specs.Desks.{Known}
+use Rattle.tap_office.specs.declared.opening.TheConstants.{SEAT_LIMIT}
+use Rattle.tap_office.specs.Name.{Opened}
+use Rattle.tap_office.specs.Seat.{SeatState, fresh_seat}
+
+-- an opening: the table, the journal's header, the history that was found, how many seats are to be
+-- made, the two ledgers, the logbook that tells the history, and the disk
+pub record OpeningState (D : Type 0) : Type 0 where
+  pub fares : Fares
+  pub header : Header
+  pub recovered : List Entry
+  pub seats : ℕ
+  pub receipts : ℕ
+  pub numbers : ℕ
+  pub story : Logbook
+  pub disk : D
+
+-- what a name of the opening stands for
+abbrev pub opened_of : {D : Type 0} → OpeningState D → Opened
+opened_of opening = record {
+  scheme = scheme_of opening.fares;
+  header = opening.header;
+  recovered = opening.recovered;
+  seats = opening.seats;
+  receipts = opening.receipts;
+  numbers = opening.numbers;
+  story = opening.story;
+  table = Some (opening.fares, opening.header.cards);
+}
+
+-- the disk of what was read, or the one that was handed back
+abbrev pub disk_read : {D : Type 0} → Result (OpeningState D) (OpenFault D) → D
+disk_read (Ok opening) = opening.disk
+disk_read (Err fault) = fault.disk
+
+-- the numbers of cards and of seats are in their limits
+pub record AreInLimits (cards seats : ℕ) : Type 0 where
+  pub some_cards : 1 ≤ cards
+  pub card_limit : cards ≤ CARD_LIMIT
+  pub some_seats : 1 ≤ seats
+  pub seat_limit : seats ≤ SEAT_LIMIT
+
+-- the opening is by this table, with so many cards and seats, and its history is the legal one of
+-- the touches that were found, with seat 0
+pub record IsOpeningOf {D : Type 0} (fares : Fares) (cards seats : ℕ) (opening : OpeningState D)
+    : Type 0 where
+  pub fares_is : opening.fares ≡ fares
+  pub cards_is : opening.header.cards ≡ cards
+  pub digest_is : opening.header.digest ≡ digest_of fares
+  pub seats_is : opening.seats ≡ seats
+  pub legal : IsLegal (scheme_of fares) cards (history_of opening.recovered)
+  pub none_filed : All (λ entry. entry.seat ≡ 0) opening.recovered
+
+-- the content is a journal of touches of which one repeats the gate and number of another, first at
+-- this place
+pub record IsJournalledTwice (cards : ℕ) (digest content : List ℕ) (fault : JournalFault) : Type 0
+  where
+    pub capacity : ℕ
+    pub touches : List Touch
+    pub place : ℕ
+    pub image : Image (header_of capacity cards digest) touches content
+    pub repeats : IsFirstRepeat touches place
+    pub is : fault ≡ Damaged place
+
+-- this is a cause for which the content can't be opened with these cards and this table
+abbrev pub HasOpenCause : ℕ → List ℕ → List ℕ → JournalFault → Type 0
+HasOpenCause cards digest content fault =
+    HasCause cards digest content fault ⊎ IsJournalledTwice cards digest content fault
+
+-- memory was refused or the disk failed
+abbrev pub IsWant : JournalFault → Type 0
+IsWant fault = (fault ≡ Memory) ⊎ (fault ≡ Device)
+
+-- memory was refused, or there was no place for a desk
+abbrev pub IsShort : JournalFault → Type 0
+IsShort fault = (fault ≡ Memory) ⊎ (fault ≡ NoDesk)
+
+-- there are so many desks, whose list is the history that was found, without notes
+pub record AreNewDesks (count : ℕ) (recovered : List Entry) (desks : List Known) : Type 0 where
+  pub all : length desks ≡ count
+  pub each : All (λ desk. desk ≡ record { list = recovered; notes = [] }) desks
+
+-- the story has just begun, with the entries of the book and the table by which they are judged
+pub record IsTold (fares : Fares) (book : Book) (story : Story) : Type 0 where
+  pub tells : told story.seen.log ≡ entries_of book
+  pub by : table_of story.seen.log ≡ Some (fares, cards_of book)
+  pub fresh : story.steps ≡ 0
+
+-- there are so many seats, without receipts and numbered from 1 on
+pub record AreFresh (count : ℕ) (seats : List SeatState) : Type 0 where
+  pub all : length seats ≡ count
+  pub each :
+      (place : ℕ) (other : SeatState) → place < length seats
+      → slice_index_or seats place other ≡ fresh_seat (place + 1)
+
+module _ {D : Type 0} {g : Ghosts D} where
+  -- the book and the journal are of the same touches, found under this table, and the two ledgers
+  -- have a part for each seat
+  pub record IsRead (fares : Fares) (book : Book) (journal : Journal D g) (seats : ℕ)
+      (receipt_parts number_parts : ℕ) : Type 0 where
+    pub legal : BookStands (scheme_of fares) book
+    pub none_filed : All (λ entry. entry.seat ≡ 0) (entries_of book)
+    pub limit : capacity_of journal ≤ HISTORY_LIMIT
+    pub going : is_stopped journal ≡ false
+    pub stands : Stands (header_of (capacity_of journal) (cards_of book) (digest_of fares))
+        (touches_of (entries_of book)) journal
+    pub some_seats : 1 ≤ seats
+    pub seat_limit : seats ≤ SEAT_LIMIT
+    pub receipts : receipt_parts ≡ seats
+    pub numbers : number_parts ≡ seats

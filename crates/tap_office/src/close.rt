@@ -1,0 +1,134 @@
+//! The end of an office: its book is held against its seats' receipts.
+ghost use Rattle.std.specs.Prelude.{◌≡◌, ◌≢◌, ◌↔◌, ◌+◌, ◌-◌, ◌^◌, ◌≤◌, List, length, IfOk, IfErr, IsTrue, MatchResult};
+ghost use Rattle.std.specs.List.{All, sum_by};
+ghost use Rattle.reply_book.specs.Book.{entries_of};
+ghost use Rattle.tap_office.specs.Close.{AreAtPlaces, IsReady, Settles, IsEnd};
+
+use crate::fault::CloseCause;
+use crate::keeper::Keeper;
+use crate::name::{Named, Numbers};
+use crate::seat::Seat;
+use reply_book::Book;
+use std::sync::Wait;
+use std::sync::ledger::Share;
+use tap_disk::Disk;
+
+/// What is left of an office that was closed.
+#[derive(Drop)]
+pub struct Closed<D> {
+    /// The history.
+    pub book: Book,
+    /// The disk, as it stands.
+    pub disk: D,
+    /// The disk had failed at a touch: it has that touch or not, and has to be opened again.
+    pub halted: bool,
+}
+
+/// Why an office was not closed, and what is left of it.
+#[derive(Drop)]
+pub struct CloseFault<D> {
+    /// The first cause.
+    pub cause: CloseCause,
+    /// The history.
+    pub book: Book,
+    /// The disk, as it stands.
+    pub disk: D,
+    /// The disk had failed at a touch: it has that touch or not, and has to be opened again.
+    pub halted: bool,
+}
+
+impl<N: Named, D: Disk> Keeper<N, D> {
+    /// Closes the book against all seats' receipts. No memory is taken, and no disk call is made.
+    /// It ends what is published, and waits for desks that read.
+    pub(crate) fn close<R: Wait>(
+        self,
+        rt: &R,
+        seats: Vec<Seat<N>>,
+    ) -> Result<Closed<D>, CloseFault<D>>
+        ensures settles { IfOk result (λ r. Settles N.opened.recovered N.opened.seats seats.items
+            (entries_of r.book)) }
+        ensures rest { MatchResult result
+            (λ r. IsEnd D.honest D.content D.outcome N.opened r.book r.halted r.disk)
+            (λ r. IsEnd D.honest D.content D.outcome N.opened r.book r.halted r.disk) }
+        ensures seat_missing { MatchResult result (λ _. length seats.items ≡ N.opened.seats)
+            (λ r. (r.cause ≡ CloseCause.SeatMissing) ↔ (length seats.items ≢ N.opened.seats)) }
+        ensures mismatch { MatchResult result
+            (λ r. All (AreAtPlaces (entries_of r.book)) seats.items)
+            (λ r. (r.cause ≡ CloseCause.Mismatch)
+            ↔ ((length seats.items ≡ N.opened.seats)
+            × (All (AreAtPlaces (entries_of r.book)) seats.items → ⊥))) }
+    {
+        let Keeper {
+            fares,
+            book,
+            journal,
+            publisher,
+            halted,
+            seats: made,
+            mut ledger,
+            share,
+            numbers,
+            mark,
+        } = self;
+        drop(fares);
+        let _published = publisher.close(rt);
+        let disk = journal.close();
+        if seats.len() != made as usize {
+            return Err(CloseFault {
+                cause: CloseCause::SeatMissing,
+                book,
+                disk,
+                halted,
+            });
+        }
+        if !all_stand(&book, &seats) {
+            return Err(CloseFault {
+                cause: CloseCause::Mismatch,
+                book,
+                disk,
+                halted,
+            });
+        }
+        let (mut all, mut marks) = gather(seats, share, mark);
+        ledger.audit(&mut all);
+        numbers.audit(&mut marks);
+        Ok(Closed { book, disk, halted })
+    }
+}
+
+/// Whether every receipt of every seat stands at its place.
+fn all_stand<N: Named>(book: &Book, seats: &[Seat<N>]) -> bool
+    ensures stand { IsTrue result ↔ All (AreAtPlaces (entries_of book.now)) seats.now }
+    ensures ready { IsTrue result → All (IsReady (entries_of book.now)) seats.now }
+{
+    for seat in seats {
+        if !seat.stands(book) {
+            return false;
+        }
+    }
+    true
+}
+
+/// The seats' shares of both ledgers, put together.
+fn gather<N: Named>(
+    seats: Vec<Seat<N>>,
+    share: Share<N>,
+    mark: Share<Numbers<N>>,
+) -> (Share<N>, Share<Numbers<N>>)
+    requires share { (share.parts ≡ 0) × (share.amount ≡ 0) }
+    requires mark { (mark.parts ≡ 0) × (mark.amount ≡ 0) }
+    ensures parts { result.0.parts ≡ length seats.items }
+    ensures amount { result.0.amount ≡ sum_by (λ seat. length seat.receipts) seats.items }
+    ensures marks { result.1.parts ≡ length seats.items }
+    ensures weight { result.1.amount ≡ sum_by (λ seat. 2 ^ (seat.number - 1)) seats.items }
+{
+    let mut seats = seats;
+    let mut share = share;
+    let mut mark = mark;
+    while let Some(seat) = seats.pop() {
+        let (one, sign) = seat.into_shares();
+        share.merge(one);
+        mark.merge(sign);
+    }
+    (share, mark)
+}

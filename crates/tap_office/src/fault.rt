@@ -1,0 +1,59 @@
+//! Why a touch is not committed, and why an office is not closed.
+use std::alloc::AllocError;
+use thiserror::Error;
+
+/// Why a touch was not committed. The numbers are those of a fault frame (docs/PROTOCOL.md).
+#[derive(Clone, Copy, Debug, PartialEq, Eq, Error)]
+pub enum SubmitFault {
+    /// 2: the gate has used the touch's number for another touch.
+    #[error("the number stands for another touch")]
+    Conflict,
+    /// 3: the disk failed at an earlier touch or at this one: the office has to be opened again.
+    #[error("the office is halted")]
+    Halted,
+    /// 4: memory was refused. The same touch can be submitted again.
+    #[error("out of memory")]
+    Memory,
+    /// 5: the journal holds as many touches as its capacity.
+    #[error("the journal is full")]
+    Full,
+}
+
+impl SubmitFault {
+    ghost use Rattle.std.specs.Prelude.{◌≡◌};
+    ghost use Rattle.tap_office.specs.Fault.{fault_code};
+
+    /// The fault's number in a fault frame: 2 to 5.
+    pub fn code(self) -> u8
+        ensures { result ≡ fault_code self }
+    {
+        match self {
+            SubmitFault::Conflict => 2,
+            SubmitFault::Halted => 3,
+            SubmitFault::Memory => 4,
+            SubmitFault::Full => 5,
+        }
+    }
+}
+
+impl From<AllocError> for SubmitFault {
+    ghost use Rattle.std.specs.Prelude.{◌≡◌};
+    ghost use Rattle.tap_office.specs.declared.fault.SubmitFault.TheVariants.{Memory};
+
+    ghost from_gives = { λ _ fault. fault ≡ Memory };
+
+    fn from(_error: AllocError) -> SubmitFault {
+        SubmitFault::Memory
+    }
+}
+
+/// Why an office was not closed.
+#[derive(Clone, Copy, Debug, PartialEq, Eq, Error)]
+pub enum CloseCause {
+    /// There are not as many seats as were made.
+    #[error("a seat is missing")]
+    SeatMissing,
+    /// A receipt doesn't stand at its place.
+    #[error("a receipt doesn't stand at its place")]
+    Mismatch,
+}

@@ -1,0 +1,102 @@
+//! The office: a keeper behind a lock.
+ghost use Rattle.std.specs.Prelude.{◌≡◌, ◌≢◌, ◌↔◌, ◌≤◌, length, IfOk, OnErr, MatchResult};
+ghost use Rattle.std.specs.List.{All};
+ghost use Rattle.reply_book.specs.Book.{entries_of};
+ghost use Rattle.tap_desk.specs.Notes.{told_by};
+ghost use Rattle.tap_office.specs.Receipt.{IsNote, Files};
+ghost use Rattle.tap_office.specs.Close.{AreAtPlaces, Settles, IsEnd};
+
+use crate::close::{CloseFault, Closed};
+use crate::fault::{CloseCause, SubmitFault};
+use crate::keeper::Keeper;
+use crate::name::Named;
+use crate::receipt::Receipt;
+use crate::seat::Seat;
+use oyster_account::Touch;
+use std::marker::PhantomData;
+use std::sync::{Mutex, Wait};
+use tap_disk::Disk;
+
+/// How many touches were found at the opening.
+#[derive(Drop)]
+pub(crate) struct Recovered<N: Named> {
+    count: u32,
+    of: PhantomData<N>,
+    ghost is: { count ≡ length N.opened.recovered },
+}
+
+/// An office: any number of seats, on any threads, commit touches to one book.
+#[derive(Drop)]
+pub struct Office<N: Named, D: Disk> {
+    keeper: Mutex<Keeper<N, D>>,
+    recovered: Recovered<N>,
+}
+
+impl<N: Named, D: Disk> Office<N, D> {
+    /// A keeper behind a lock.
+    pub(crate) fn new(keeper: Keeper<N, D>, count: u32) -> Office<N, D>
+        requires { count ≡ length N.opened.recovered }
+    {
+        Office {
+            keeper: Mutex::new(keeper),
+            recovered: Recovered {
+                count,
+                of: PhantomData,
+            },
+        }
+    }
+
+    /// How many touches were found at the opening.
+    pub fn opened(&self) -> u32
+        ensures { result ≡ length N.opened.recovered }
+    {
+        self.recovered.count
+    }
+
+    /// Takes the lock, and commits a touch as `Keeper::commit` does.
+    ///
+    /// The receipt's touch is the one that was handed in, and its reply stands beside that touch at
+    /// its place in a legal history that begins with the recovered one. A fault leaves the seat.
+    pub fn submit<R: Wait>(
+        &self,
+        rt: &R,
+        seat: &mut Seat<N>,
+        touch: Touch,
+    ) -> Result<Receipt<N>, SubmitFault>
+        ensures files { IfOk result (Files touch seat.old seat.new) }
+        ensures note { IfOk result (λ r. IsNote N.opened (told_by r.note) r) }
+        ensures kept { OnErr result (seat.new ≡ seat.old) }
+    {
+        self.keeper.lock(rt).commit(rt, seat, touch)
+    }
+
+    /// Closes the office against its seats' receipts: the history is what was found at the opening
+    /// and what the seats filed, and nothing else. No memory is taken, and no disk call is made.
+    /// Desks answer nothing from then on; it waits for those that read.
+    ///
+    /// `SeatMissing` comes where there are not as many seats as were made, and then `Mismatch`
+    /// where a receipt doesn't stand at its place. In each case the book and the disk are handed
+    /// back.
+    pub fn close<R: Wait>(self, rt: &R, seats: Vec<Seat<N>>) -> Result<Closed<D>, CloseFault<D>>
+        ensures settles { IfOk result (λ r. Settles N.opened.recovered N.opened.seats seats.items
+            (entries_of r.book)) }
+        ensures rest { MatchResult result
+            (λ r. IsEnd D.honest D.content D.outcome N.opened r.book r.halted r.disk)
+            (λ r. IsEnd D.honest D.content D.outcome N.opened r.book r.halted r.disk) }
+
+        // Each fault has its cause.
+        ensures seat_missing { MatchResult result (λ _. length seats.items ≡ N.opened.seats)
+            (λ r. (r.cause ≡ CloseCause.SeatMissing) ↔ (length seats.items ≢ N.opened.seats)) }
+        ensures mismatch { MatchResult result
+            (λ r. All (AreAtPlaces (entries_of r.book)) seats.items)
+            (λ r. (r.cause ≡ CloseCause.Mismatch)
+            ↔ ((length seats.items ≡ N.opened.seats)
+            × (All (AreAtPlaces (entries_of r.book)) seats.items → ⊥))) }
+    {
+        let Office {
+            keeper,
+            recovered: _,
+        } = self;
+        keeper.into_inner().close(rt, seats)
+    }
+}
