@@ -4,13 +4,14 @@ use Rattle.std.proofs.lemmas.List.{take_at}
 use Rattle.std.specs.Prelude.{IfErr, IsErrAnd}
 use Rattle.std.specs.Io.KnownBytes.{Consumes, Keeps}
 use Rattle.std.proofs.KnownBytes.{Appends-nil, Appends-trans, Consumes-nil, Consumes-trans, Consumes-kept}
-use Rattle.oyster_account.specs.Tariff.{Terms}
+use Rattle.oyster_account.specs.Scheme.{Scheme}
 use Rattle.tap_server.specs.declared.fault.RunFault.{RunFault}
 use Rattle.tap_server.specs.declared.fault.RunFault.TheVariants.{Memory, Read, Write, BadLine}
 use Rattle.tap_server.specs.declared.replay.Replay.{Replay}
 use Rattle.tap_server.specs.Replay.{Output, behind, output_of}
 use Rattle.tap_server.specs.Progress.{output_from}
-use Rattle.tap_server.specs.Run.{IsBeginning, HasStopped, HasWritten, Wrote, Ran}
+use Rattle.gate_session.specs.Writing.{IsBeginning, Wrote, Ran}
+use Rattle.tap_server.specs.Run.{HasStopped, HasWritten}
 use Rattle.tap_server.proofs.ReplayLemmas.{behind-behind}
 
 -- ---- results
@@ -41,23 +42,23 @@ HasWritten-behind output text later (Err fault) stops = HasStopped-behind output
 -- ---- runs
 
 -- what a run has come to: what is still written for the bytes to come stands behind what was written
-abbrev pub Reaches : Terms → ℕ → Replay → List ℕ → List ℕ → Type 0
-Reaches terms cards replay bytes text = (later : List ℕ) → behind text (output_from terms replay later) ≡ output_of terms cards (bytes ++ later)
+abbrev pub Reaches : Scheme → ℕ → Replay → List ℕ → List ℕ → Type 0
+Reaches scheme cards replay bytes text = (later : List ℕ) → behind text (output_from replay later) ≡ output_of scheme cards (bytes ++ later)
 
 -- nothing was read, and nothing written
-pub Ran-nothing : (terms : Terms) (cards : ℕ) (unread before : Option (List ℕ)) (result : Result Unit RunFault) (fault : RunFault)
-    → IsErrAnd result (λ given. given ≡ fault) → fault ≡ Memory → Ran unread unread before before (λ bytes text. HasWritten (output_of terms cards bytes) text result)
-Ran-nothing terms cards unread before result fault is memory = record {
+pub Ran-nothing : (scheme : Scheme) (cards : ℕ) (unread before : Option (List ℕ)) (result : Result Unit RunFault) (fault : RunFault)
+    → IsErrAnd result (λ given. given ≡ fault) → fault ≡ Memory → Ran unread unread before before (λ bytes text. HasWritten (output_of scheme cards bytes) text result)
+Ran-nothing scheme cards unread before result fault is memory = record {
   bytes = [];
   text = [];
   consumed = Consumes-nil unread;
   appended = Appends-nil before;
-  says = HasWritten-at (output_of terms cards []) [] result Memory (subst (λ (f : RunFault). IsErrAnd result (λ given. given ≡ f)) memory is) ((output_of terms cards []).text, refl);
+  says = HasWritten-at (output_of scheme cards []) [] result Memory (subst (λ (f : RunFault). IsErrAnd result (λ given. given ≡ f)) memory is) ((output_of scheme cards []).text, refl);
 }
 
-pub Ran-begins : (terms : Terms) (cards : ℕ) (replay : Replay) (unread before : Option (List ℕ)) → ((bytes : List ℕ) → output_from terms replay bytes ≡ output_of terms cards bytes)
-    → Ran unread unread before before (Reaches terms cards replay)
-Ran-begins terms cards replay unread before begins = record {
+pub Ran-begins : (scheme : Scheme) (cards : ℕ) (replay : Replay) (unread before : Option (List ℕ)) → ((bytes : List ℕ) → output_from replay bytes ≡ output_of scheme cards bytes)
+    → Ran unread unread before before (Reaches scheme cards replay)
+Ran-begins scheme cards replay unread before begins = record {
   bytes = [];
   text = [];
   consumed = Consumes-nil unread;
@@ -66,83 +67,83 @@ Ran-begins terms cards replay unread before begins = record {
 }
 
 -- what was written begins what is written for the bytes that were read
-Reaches-begins : (terms : Terms) (cards : ℕ) (replay : Replay) (bytes text : List ℕ) → Reaches terms cards replay bytes text → IsBeginning text (output_of terms cards bytes).text
-Reaches-begins terms cards replay bytes text reaches =
-    ((output_from terms replay []).text, ap (λ (l : List ℕ). (output_of terms cards l).text) (sym (append-nil bytes)) ∙ ap (λ (o : Output). o.text) (sym (reaches [])))
+Reaches-begins : (scheme : Scheme) (cards : ℕ) (replay : Replay) (bytes text : List ℕ) → Reaches scheme cards replay bytes text → IsBeginning text (output_of scheme cards bytes).text
+Reaches-begins scheme cards replay bytes text reaches =
+    ((output_from replay []).text, ap (λ (l : List ℕ). (output_of scheme cards l).text) (sym (append-nil bytes)) ∙ ap (λ (o : Output). o.text) (sym (reaches [])))
 
 -- a read that failed, or one too many
-pub Ran-unread : (terms : Terms) (cards : ℕ) (replay : Replay) (unread left after before written : Option (List ℕ)) (result : Result Unit RunFault)
-    → Ran unread left before written (Reaches terms cards replay) → Keeps left after → IsErrAnd result (λ given. given ≡ Read)
-    → Ran unread after before written (λ bytes text. HasWritten (output_of terms cards bytes) text result)
-Ran-unread terms cards replay unread left after before written result ran kept is = record {
+pub Ran-unread : (scheme : Scheme) (cards : ℕ) (replay : Replay) (unread left after before written : Option (List ℕ)) (result : Result Unit RunFault)
+    → Ran unread left before written (Reaches scheme cards replay) → Keeps left after → IsErrAnd result (λ given. given ≡ Read)
+    → Ran unread after before written (λ bytes text. HasWritten (output_of scheme cards bytes) text result)
+Ran-unread scheme cards replay unread left after before written result ran kept is = record {
   bytes = ran.bytes;
   text = ran.text;
   consumed = Consumes-kept unread left after ran.bytes ran.consumed kept;
   appended = ran.appended;
-  says = HasWritten-at (output_of terms cards ran.bytes) ran.text result Read is (Reaches-begins terms cards replay ran.bytes ran.text ran.says);
+  says = HasWritten-at (output_of scheme cards ran.bytes) ran.text result Read is (Reaches-begins scheme cards replay ran.bytes ran.text ran.says);
 }
 
 -- one piece more
-pub Ran-more : (terms : Terms) (cards : ℕ) (old new : Replay) (unread left after before written now : Option (List ℕ)) (piece : List ℕ)
-    → Ran unread left before written (Reaches terms cards old) → Consumes left after piece
-    → Wrote written now (λ text. (later : List ℕ) → behind text (output_from terms new later) ≡ output_from terms old (piece ++ later))
-    → Ran unread after before now (Reaches terms cards new)
-Ran-more terms cards old new unread left after before written now piece ran taken wrote = record {
+pub Ran-more : (scheme : Scheme) (cards : ℕ) (old new : Replay) (unread left after before written now : Option (List ℕ)) (piece : List ℕ)
+    → Ran unread left before written (Reaches scheme cards old) → Consumes left after piece
+    → Wrote written now (λ text. (later : List ℕ) → behind text (output_from new later) ≡ output_from old (piece ++ later))
+    → Ran unread after before now (Reaches scheme cards new)
+Ran-more scheme cards old new unread left after before written now piece ran taken wrote = record {
   bytes = ran.bytes ++ piece;
   text = ran.text ++ wrote.text;
   consumed = Consumes-trans unread left after ran.bytes piece ran.consumed taken;
   appended = Appends-trans before written now ran.text wrote.text ran.appended wrote.appended;
   says = λ later.
-      sym (behind-behind ran.text wrote.text (output_from terms new later))
+      sym (behind-behind ran.text wrote.text (output_from new later))
       ∙ ap (behind ran.text) (wrote.says later)
       ∙ ran.says (piece ++ later)
-      ∙ ap (output_of terms cards) (sym (append_assoc ran.bytes piece later));
+      ∙ ap (output_of scheme cards) (sym (append_assoc ran.bytes piece later));
 }
 
 -- the last of the input
-pub Ran-end : (terms : Terms) (cards : ℕ) (replay : Replay) (unread left after before written now : Option (List ℕ)) (piece : List ℕ) (result : Result Unit RunFault)
-    → Ran unread left before written (Reaches terms cards replay) → Consumes left after piece → piece ≡ []
-    → Wrote written now (λ text. HasWritten (output_from terms replay []) text result)
-    → Ran unread after before now (λ bytes text. HasWritten (output_of terms cards bytes) text result)
-Ran-end terms cards replay unread left after before written now piece result ran taken none wrote =
+pub Ran-end : (scheme : Scheme) (cards : ℕ) (replay : Replay) (unread left after before written now : Option (List ℕ)) (piece : List ℕ) (result : Result Unit RunFault)
+    → Ran unread left before written (Reaches scheme cards replay) → Consumes left after piece → piece ≡ []
+    → Wrote written now (λ text. HasWritten (output_from replay []) text result)
+    → Ran unread after before now (λ bytes text. HasWritten (output_of scheme cards bytes) text result)
+Ran-end scheme cards replay unread left after before written now piece result ran taken none wrote =
     let all : ran.bytes ++ [] ≡ ran.bytes ++ piece = ap (λ (l : List ℕ). ran.bytes ++ l) (sym none) in
-    let is : behind ran.text (output_from terms replay []) ≡ output_of terms cards (ran.bytes ++ piece) = ran.says [] ∙ ap (output_of terms cards) all in
+    let is : behind ran.text (output_from replay []) ≡ output_of scheme cards (ran.bytes ++ piece) = ran.says [] ∙ ap (output_of scheme cards) all in
     record {
       bytes = ran.bytes ++ piece;
       text = ran.text ++ wrote.text;
       consumed = Consumes-trans unread left after ran.bytes piece ran.consumed taken;
       appended = Appends-trans before written now ran.text wrote.text ran.appended wrote.appended;
       says = subst (λ (o : Output). HasWritten o (ran.text ++ wrote.text) result) is
-          (HasWritten-behind (output_from terms replay []) ran.text wrote.text result wrote.says);
+          (HasWritten-behind (output_from replay []) ran.text wrote.text result wrote.says);
     }
 
 -- a piece that ended the run
-pub Ran-stopped : (terms : Terms) (cards : ℕ) (replay : Replay) (unread left after before written now : Option (List ℕ)) (piece : List ℕ) (fault : RunFault) (result : Result Unit RunFault)
-    → Ran unread left before written (Reaches terms cards replay) → Consumes left after piece → IsErrAnd result (λ given. given ≡ fault)
-    → Wrote written now (λ text. (later : List ℕ) → HasStopped (output_from terms replay (piece ++ later)) text fault)
-    → Ran unread after before now (λ bytes text. HasWritten (output_of terms cards bytes) text result)
-Ran-stopped terms cards replay unread left after before written now piece fault result ran taken passed wrote =
-    let is : behind ran.text (output_from terms replay piece) ≡ output_of terms cards (ran.bytes ++ piece) = ran.says piece in
-    let stops : HasStopped (output_from terms replay piece) wrote.text fault =
-    subst (λ (l : List ℕ). HasStopped (output_from terms replay l) wrote.text fault) (append-nil piece) (wrote.says []) in
+pub Ran-stopped : (scheme : Scheme) (cards : ℕ) (replay : Replay) (unread left after before written now : Option (List ℕ)) (piece : List ℕ) (fault : RunFault) (result : Result Unit RunFault)
+    → Ran unread left before written (Reaches scheme cards replay) → Consumes left after piece → IsErrAnd result (λ given. given ≡ fault)
+    → Wrote written now (λ text. (later : List ℕ) → HasStopped (output_from replay (piece ++ later)) text fault)
+    → Ran unread after before now (λ bytes text. HasWritten (output_of scheme cards bytes) text result)
+Ran-stopped scheme cards replay unread left after before written now piece fault result ran taken passed wrote =
+    let is : behind ran.text (output_from replay piece) ≡ output_of scheme cards (ran.bytes ++ piece) = ran.says piece in
+    let stops : HasStopped (output_from replay piece) wrote.text fault =
+    subst (λ (l : List ℕ). HasStopped (output_from replay l) wrote.text fault) (append-nil piece) (wrote.says []) in
     record {
       bytes = ran.bytes ++ piece;
       text = ran.text ++ wrote.text;
       consumed = Consumes-trans unread left after ran.bytes piece ran.consumed taken;
       appended = Appends-trans before written now ran.text wrote.text ran.appended wrote.appended;
-      says = HasWritten-at (output_of terms cards (ran.bytes ++ piece)) (ran.text ++ wrote.text) result fault passed
-          (subst (λ (o : Output). HasStopped o (ran.text ++ wrote.text) fault) is (HasStopped-behind (output_from terms replay piece) ran.text wrote.text fault stops));
+      says = HasWritten-at (output_of scheme cards (ran.bytes ++ piece)) (ran.text ++ wrote.text) result fault passed
+          (subst (λ (o : Output). HasStopped o (ran.text ++ wrote.text) fault) is (HasStopped-behind (output_from replay piece) ran.text wrote.text fault stops));
     }
 
 -- as many reads as were allowed
-pub Ran-over : (terms : Terms) (cards : ℕ) (replay : Replay) (unread left before written : Option (List ℕ))
-    → Ran unread left before written (Reaches terms cards replay) → Ran unread left before written (λ bytes text. IsBeginning text (output_of terms cards bytes).text)
-Ran-over terms cards replay unread left before written ran = record {
+pub Ran-over : (scheme : Scheme) (cards : ℕ) (replay : Replay) (unread left before written : Option (List ℕ))
+    → Ran unread left before written (Reaches scheme cards replay) → Ran unread left before written (λ bytes text. IsBeginning text (output_of scheme cards bytes).text)
+Ran-over scheme cards replay unread left before written ran = record {
   bytes = ran.bytes;
   text = ran.text;
   consumed = ran.consumed;
   appended = ran.appended;
-  says = Reaches-begins terms cards replay ran.bytes ran.text ran.says;
+  says = Reaches-begins scheme cards replay ran.bytes ran.text ran.says;
 }
 
 pub passed-is : (result : Result Unit RunFault) (fault same : RunFault) → IsErrAnd result (λ given. given ≡ fault) → fault ≡ same → IsErrAnd result (λ given. given ≡ same)

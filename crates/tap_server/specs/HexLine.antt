@@ -8,7 +8,7 @@ use Rattle.oyster_account.specs.declared.touch.Act.TheVariants.{Enter, Leave, To
 use Rattle.oyster_account.specs.declared.touch.TheConstants.{KIND_ENTER, KIND_LEAVE, KIND_TOP_UP, KIND_ISSUE}
 use Rattle.gate_session.specs.declared.request.Request.{Request}
 use Rattle.gate_session.specs.declared.request.Request.TheVariants as requests
-use Rattle.gate_session.specs.declared.request.TheConstants.{KIND_ENQUIRY}
+use Rattle.gate_session.specs.declared.frame.TheConstants.{KIND_ENQUIRY}
 use Rattle.gate_session.specs.declared.answer.Answer.{Answer}
 use Rattle.gate_session.specs.Frames.{RequestFits, request_frame}
 use Rattle.gate_session.specs.Answers.{answer_frame}

@@ -1,46 +1,70 @@
-//! The program's command line.
+//! What the words of a command line ask for.
 
 ghost use Rattle.std.specs.Prelude.{◌≡◌, IfOk, IfSome};
 ghost use Rattle.clap.specs.Values.{kind_of};
 ghost use Rattle.clap.specs.declared.error.kind.ErrorKind.TheVariants.{InvalidValue};
-ghost use Rattle.tap_server.specs.Arguments.{IsAllowed};
+ghost use Rattle.tap_server.specs.Arguments.{IsAllowed, IsServeAllowed, IsWithin};
 
+use crate::commands::command;
 use clap::error::ErrorKind;
-use clap::{Arg, ArgAction, ArgMatches, Command, Error};
+use clap::{ArgMatches, Error};
 use std::alloc::Global;
 
 /// The most cards that a station has.
 pub const CARDS_LIMIT: u32 = 100_000;
+/// The most touches that a journal has room for.
+pub const CAPACITY_LIMIT: u32 = 1_000_000;
+/// The most lines of a server.
+pub const LINES_LIMIT: u32 = 64;
+/// The most connections of a line.
+pub const CONNECTIONS_LIMIT: u32 = 1_000_000;
+/// The most seconds for which a silent gate is waited for.
+pub const IDLE_LIMIT: u32 = 1_000_000;
 
 /// What the program is asked to do.
 #[derive(Clone, Copy, Debug, PartialEq, Eq)]
 pub enum Arguments<'a> {
-    /// Answer the request lines of standard input, with this many cards.
-    Replay { cards: u32 },
+    /// Answer the request lines of standard input, by the fare table in the file of this path or
+    /// the example table, with this many cards.
+    Replay { table: Option<&'a str>, cards: u32 },
     /// Check the fare table in the file of this path.
     Check { table: &'a str },
+    /// Serve gates.
+    Serve(Serve<'a>),
 }
 
-const ABOUT: &str = "Answers the touches of Oyster pay as you go";
+/// What a server is asked for.
+#[derive(Clone, Copy, Debug, PartialEq, Eq)]
+pub struct Serve<'a> {
+    /// The path of the fare table.
+    pub table: &'a str,
+    /// The path of the journal.
+    pub journal: &'a str,
+    /// How many cards there are.
+    pub cards: u32,
+    /// How many touches a journal has room for that is made now.
+    pub capacity: u32,
+    /// The address that gates connect to.
+    pub listen: &'a str,
+    /// How many gates are served at once.
+    pub lines: u32,
+    /// How many connections each line serves, one after the other.
+    pub connections: u32,
+    /// After how many seconds a silent gate is given up, where it is.
+    pub idle: Option<u32>,
+}
+
+/// What stands for a number that has a sign.
+const NOT_DECIMAL: &str = "a number is written in the digits 0 to 9 alone";
 
 /// The text of Rust's `clap` for this.
 const NOT_UTF8: &str = "invalid UTF-8 was detected in one or more arguments";
 
-const CHECK_ABOUT: &str = "Says whether a file is a valid fare table, or what is wrong with it";
-
-const CHECK_EXAMPLE: &str = "Example:
-  tap_server check --table fares.toml";
-
-const REPLAY_ABOUT: &str =
-    "Answers each request line of standard input by a line on standard output";
-
-const REPLAY_EXAMPLE: &str = "Example, an issue of card 1:
-  echo 000f0400070000000100000001677b8b28 | tap_server replay --cards 10";
-
 /// What the words of a command line ask for; the program's own name is the first of them.
 ///
-/// The error says that help was asked for, or what is wrong: no command or an unknown one, no
-/// number of cards from 1 to `CARDS_LIMIT`, or no file. Its text and its status are `clap`'s.
+/// The error says that help was asked for, or what is wrong: no command or an unknown one, a number
+/// that isn't within its limits or isn't written in decimal digits, or no file. Its text and its
+/// status are `clap`'s.
 pub fn arguments_of<'a>(alloc: Global, words: &'a [&'a str]) -> Result<Arguments<'a>, Error>
     ensures { IfOk result IsAllowed }
 {
@@ -48,7 +72,7 @@ pub fn arguments_of<'a>(alloc: Global, words: &'a [&'a str]) -> Result<Arguments
     let matches = command.try_get_matches_from_mut(words)?;
     match asked(&matches) {
         Some(asked) => Ok(asked),
-        None => Err(command.error(ErrorKind::MissingSubcommand, "no command")?),
+        None => Err(command.error(ErrorKind::InvalidValue, NOT_DECIMAL)?),
     }
 }
 
@@ -59,16 +83,21 @@ pub fn refuse_bytes(alloc: Global) -> Result<Error, Error>
     Ok(command(alloc)?.error(ErrorKind::InvalidValue, NOT_UTF8)?)
 }
 
-/// What the matches ask for.
+/// What the matches ask for. `None` where a number isn't written in decimal digits.
 fn asked<'a>(matches: &ArgMatches<'a>) -> Option<Arguments<'a>>
     ensures { IfSome result IsAllowed }
 {
     match matches.subcommand()? {
         ("replay", inner) => replay_asked(inner),
-        (_, inner) => {
+        ("check", inner) => {
             let table = inner.get_str("table")?;
             Some(Arguments::Check { table })
         }
+        ("serve", inner) => {
+            let serve = serve_asked(inner)?;
+            Some(Arguments::Serve(serve))
+        }
+        _ => None,
     }
 }
 
@@ -76,54 +105,49 @@ fn asked<'a>(matches: &ArgMatches<'a>) -> Option<Arguments<'a>>
 fn replay_asked<'a>(matches: &ArgMatches<'a>) -> Option<Arguments<'a>>
     ensures { IfSome result IsAllowed }
 {
-    let cards = matches.get_one::<u32>("cards")?;
-    if 0 < cards && cards <= CARDS_LIMIT {
-        Some(Arguments::Replay { cards })
+    let table = matches.get_str("table");
+    let cards = number_asked(matches, "cards", CARDS_LIMIT)?;
+    Some(Arguments::Replay { table, cards })
+}
+
+/// The server that the matches of its command ask for.
+fn serve_asked<'a>(matches: &ArgMatches<'a>) -> Option<Serve<'a>>
+    ensures { IfSome result IsServeAllowed }
+{
+    let table = matches.get_str("table")?;
+    let journal = matches.get_str("journal")?;
+    let listen = matches.get_str("listen")?;
+    let cards = number_asked(matches, "cards", CARDS_LIMIT)?;
+    let capacity = number_asked(matches, "capacity", CAPACITY_LIMIT)?;
+    let lines = number_asked(matches, "lines", LINES_LIMIT)?;
+    let connections = number_asked(matches, "connections", CONNECTIONS_LIMIT)?;
+    let idle = match matches.get_str("idle") {
+        Some(_) => Some(number_asked(matches, "idle", IDLE_LIMIT)?),
+        None => None,
+    };
+    Some(Serve {
+        table,
+        journal,
+        cards,
+        capacity,
+        listen,
+        lines,
+        connections,
+        idle,
+    })
+}
+
+/// The number that an option has. `None` where it isn't from 1 to this limit, or isn't written in
+/// decimal digits alone: a parser of numbers takes a sign as well.
+fn number_asked(matches: &ArgMatches<'_>, name: &str, limit: u32) -> Option<u32>
+    ensures { IfSome result (IsWithin limit) }
+{
+    let text = matches.get_str(name)?;
+    let number = matches.get_one::<u32>(name)?;
+    let is_decimal = text.bytes().all(|byte| byte.is_ascii_digit());
+    if is_decimal && 0 < number && number <= limit {
+        Some(number)
     } else {
         None
     }
-}
-
-/// The command line as `clap` reads it.
-fn command<'a>(alloc: Global) -> Result<Command<'a>, Error> {
-    Ok(
-        Command::new(alloc, "tap_server")
-            .about(ABOUT)
-            .subcommand_required(true)
-            .subcommand(replay_command(alloc)?)?
-            .subcommand(check_command(alloc)?)?,
-    )
-}
-
-/// The command `replay`.
-fn replay_command<'a>(alloc: Global) -> Result<Command<'a>, Error> {
-    let cards = Arg::new(alloc, "cards")
-        .long("cards")
-        .value_name("N")
-        .help("How many cards there are, from 1 to 100000")
-        .required(true)
-        .action(ArgAction::Set)
-        .value_parser(clap::value_parser!(u32).range(1..=i64::from(CARDS_LIMIT)));
-    Ok(
-        Command::new(alloc, "replay")
-            .about(REPLAY_ABOUT)
-            .after_help(REPLAY_EXAMPLE)
-            .arg(cards)?,
-    )
-}
-
-/// The command `check`.
-fn check_command<'a>(alloc: Global) -> Result<Command<'a>, Error> {
-    let table = Arg::new(alloc, "table")
-        .long("table")
-        .value_name("FILE")
-        .help("The file of the fare table, in TOML")
-        .required(true)
-        .action(ArgAction::Set);
-    Ok(
-        Command::new(alloc, "check")
-            .about(CHECK_ABOUT)
-            .after_help(CHECK_EXAMPLE)
-            .arg(table)?,
-    )
 }

@@ -1,15 +1,16 @@
 //! The check of a fare table: what is written says whether the table is valid, or what is wrong with it.
 
-ghost use Rattle.std.specs.Prelude.{◌≡◌, ◌≢◌, string_bytes, IfOk, IfErr, None, Some};
-ghost use Rattle.std.specs.Io.KnownBytes.{IsAtEnd};
+ghost use Rattle.std.specs.Prelude.{◌≡◌, ◌≢◌, ℕ, List, string_bytes, IfOk, IfErr, None, Some};
+ghost use Rattle.std.specs.Io.KnownBytes.{Consumes, IsAtEnd};
+ghost use Rattle.gate_session.specs.Writing.{Ran};
 ghost use Rattle.fare_table.specs.Table.{IsTableOf};
 ghost use Rattle.fare_table.specs.declared.fault.TableFault.TheVariants as fault;
-ghost use Rattle.tap_server.specs.Check.{report_of, fault_in, lines_of_table, HasChecked, IsReport};
-ghost use Rattle.tap_server.specs.Run.{Ran};
+ghost use Rattle.tap_server.specs.Check.{report_of, fault_in, lines_of_table, HasChecked, IsReport, IsTableFault};
 
-use crate::fault::RunFault;
-use crate::stream::{read_all, write_text};
+use crate::fault::{CommandFault, RunFault};
+use crate::stream::read_all;
 use fare_table::{Fares, TableFault};
+use gate_session::write_text;
 use std::alloc::{AllocError, Global};
 use std::io::{Read, Write};
 use std::str;
@@ -39,6 +40,27 @@ pub fn check_table<R: Read, W: Write>(
     let report = report(alloc, &bytes)?;
     write_text(writer, report.text.as_bytes())?;
     Ok(report.is_valid)
+}
+
+/// Reads a fare table to its end. A fault is that of the table, `File` where a read failed, or
+/// `Memory`.
+pub(crate) fn table_of<R: Read>(
+    alloc: Global,
+    reader: &mut R,
+    turns: u32,
+) -> Result<Fares, CommandFault>
+    ensures read { IfOk result (λ fares. (bytes : List ℕ)
+        × Consumes (R.remaining reader.old) (R.remaining reader.new) bytes × IsTableOf bytes fares) }
+    ensures end { IfOk result (λ _. IsAtEnd (R.remaining reader.new)) }
+    ensures fault { IfErr result (λ fault. (bytes : List ℕ)
+        × Consumes (R.remaining reader.old) (R.remaining reader.new) bytes × IsTableFault bytes fault) }
+{
+    let bytes = match read_all(alloc, reader, turns) {
+        Ok(bytes) => bytes,
+        Err(RunFault::Read) => return Err(CommandFault::File),
+        Err(fault) => return Err(fault.into()),
+    };
+    Ok(read_table(alloc, &bytes)?)
 }
 
 /// What is written for the bytes of a table.

@@ -1,12 +1,17 @@
 //! Why a command didn't do what it was asked for.
 
 ghost use Rattle.std.specs.Prelude.{◌≡◌};
-ghost use Rattle.tap_server.specs.declared.fault.RunFault.TheVariants.{Memory};
-ghost use Rattle.tap_server.specs.declared.fault.CommandFault.TheVariants.{Run};
+ghost use Rattle.tap_server.specs.declared.fault.RunFault.TheVariants.{Memory, Write};
+ghost use Rattle.tap_server.specs.declared.fault.CommandFault.TheVariants.{Journal, Run};
+ghost use Rattle.tap_server.specs.Command.{command_fault};
 
 use clap::Error as LineError;
 use clap::error::ErrorKind;
+use fare_table::TableFault;
+use gate_session::WriteFault;
 use std::alloc::{AllocError, AllocFailed};
+use tap_journal::JournalFault;
+use tap_office::CloseCause;
 use thiserror::Error;
 
 /// Why a run over some input ended early, in the line that standard error gets of it.
@@ -42,15 +47,38 @@ impl<T: Drop> From<AllocFailed<T>> for RunFault {
     }
 }
 
+impl From<WriteFault> for RunFault {
+    ghost from_gives = { λ _ fault. fault ≡ Write };
+
+    fn from(_fault: WriteFault) -> RunFault {
+        RunFault::Write
+    }
+}
+
 /// Why a command wasn't done.
 #[derive(Debug, Drop, Error)]
 pub enum CommandFault {
     /// The command line asks for help, or for nothing that the program does.
     #[error("{0}")]
     Line(LineError),
-    /// The file of the command line can't be opened, or not be read to its end.
+    /// A file of the command line can't be opened, or not be read to its end.
     #[error("fault file")]
     File,
+    /// The file's fare table is refused.
+    #[error("{0}")]
+    Table(TableFault),
+    /// The journal can't be made or opened.
+    #[error("fault journal {0}")]
+    Journal(JournalFault),
+    /// The address can't be listened on.
+    #[error("fault listen")]
+    Listen,
+    /// Not as many seats came back to the closing as were made. No run shows it.
+    #[error("fault close 1 SeatMissing")]
+    SeatMissing,
+    /// A receipt doesn't stand at its place. No run shows it.
+    #[error("fault close 2 Mismatch")]
+    Mismatch,
     /// The run over the input ended early.
     #[error("{0}")]
     Run(RunFault),
@@ -64,11 +92,40 @@ impl From<RunFault> for CommandFault {
     }
 }
 
+/// A table for which there was no memory is a fault of the run.
+impl From<TableFault> for CommandFault {
+    ghost from_gives = { λ given fault. fault ≡ command_fault given };
+
+    fn from(fault: TableFault) -> CommandFault {
+        match fault {
+            TableFault::Memory => CommandFault::Run(RunFault::Memory),
+            fault => CommandFault::Table(fault),
+        }
+    }
+}
+
 impl From<AllocError> for CommandFault {
     ghost from_gives = { λ _ fault. fault ≡ Run Memory };
 
     fn from(_error: AllocError) -> CommandFault {
         CommandFault::Run(RunFault::Memory)
+    }
+}
+
+impl From<JournalFault> for CommandFault {
+    ghost from_gives = { λ given fault. fault ≡ Journal given };
+
+    fn from(fault: JournalFault) -> CommandFault {
+        CommandFault::Journal(fault)
+    }
+}
+
+impl From<CloseCause> for CommandFault {
+    fn from(cause: CloseCause) -> CommandFault {
+        match cause {
+            CloseCause::SeatMissing => CommandFault::SeatMissing,
+            CloseCause::Mismatch => CommandFault::Mismatch,
+        }
     }
 }
 

@@ -14,7 +14,7 @@ pub const LINE_LIMIT: usize = 128;
 
 /// The request whose whole frame a line is, in digits of either case. `None` where the line has
 /// more bytes than `LINE_LIMIT`, or isn't exactly one such frame.
-pub fn request_of_line(line: &[u8]) -> Option<Request>
+pub(crate) fn request_of_line(line: &[u8]) -> Option<Request>
     ensures { result ≡ request_of_line line.now }
 {
     if line.len() > LINE_LIMIT {
@@ -29,7 +29,7 @@ pub fn request_of_line(line: &[u8]) -> Option<Request>
 }
 
 /// Adds the line of an answer to a text. An `Err`, for want of memory, adds nothing.
-pub fn append_answer(text: &mut Vec<u8>, answer: &Answer) -> Result<(), AllocError>
+pub(crate) fn append_answer(text: &mut Vec<u8>, answer: &Answer) -> Result<(), AllocError>
     ensures ok { OnOk result (text.new.items ≡ text.old.items ++ answer_line answer.now) }
     ensures err { OnErr result (text.new.items ≡ text.old.items) }
 {

@@ -3,23 +3,37 @@
 //! what is read.
 #![tactic(auto)]
 
+ghost use Rattle.tap_server.specs.Arguments.{IsWithin};
+
 mod arguments;
 mod check;
+mod clerk;
+mod commands;
 mod fault;
+mod gate_line;
 mod hex_line;
-mod history;
 mod laws;
+mod line;
+mod post;
 mod replay;
+mod report;
+mod server;
+mod station;
 mod stream;
+mod tally;
 
 use crate::arguments::{Arguments, arguments_of, refuse_bytes};
-use crate::check::check_table;
+use crate::check::{check_table, table_of};
 use crate::fault::{CommandFault, RunFault};
 use crate::replay::replay_text;
-use oyster_account::Tariff;
+use crate::server::serve_gates;
+use fare_table::{EXAMPLE_TABLE, Fares};
 use std::fs::File;
+use std::net::{Net, TcpListener, TcpStream};
 use std::process::ExitCode;
 use std::rt::{Env, Files};
+use std::sync::Wait;
+use std::thread::Threads;
 use std::{env, io};
 
 /// How many reads a command makes of its input at most.
@@ -33,12 +47,27 @@ fn main(rt: HostRuntime) -> io::Result<ExitCode> {
 }
 
 /// Does what the command line asks for, and answers the status.
-fn run<R: AllocGlobal + Env + Files + Input + Print>(rt: &R) -> Result<ExitCode, CommandFault> {
+fn run<
+    R: AllocGlobal
+        + Env
+        + Files<File = File>
+        + Input
+        + Print
+        + Eprint
+        + Net<Listener = TcpListener, Stream = TcpStream>
+        + Threads
+        + Wait
+        + Sync,
+>(rt: &R) -> Result<ExitCode, CommandFault> {
     let words = words(rt)?;
     let words: Vec<&str> = words.iter().map(|word| word.as_str()).collect(rt.alloc())?;
     match arguments_of(rt.alloc(), words.as_slice())? {
-        Arguments::Replay { cards } => replay_input(rt, cards),
+        Arguments::Replay { table, cards } => replay_input(rt, table, cards),
         Arguments::Check { table } => check_file(rt, table),
+        Arguments::Serve(asked) => {
+            let fares = fares_of(rt, Some(asked.table))?;
+            serve_gates(rt, fares, &asked)
+        }
     }
 }
 
@@ -51,16 +80,31 @@ fn words<R: AllocGlobal + Env>(rt: &R) -> Result<Vec<String>, CommandFault> {
     }
 }
 
-/// Replays standard input to standard output.
-fn replay_input<R: AllocGlobal + Input + Print>(
+/// Replays standard input to standard output, by the fare table in a file or the example table.
+/// The table is looked at before any input is read.
+fn replay_input<R: AllocGlobal + Files + Input + Print>(
     rt: &R,
+    table: Option<&str>,
     cards: u32,
-) -> Result<ExitCode, CommandFault> {
-    let tariff = Tariff::example();
+) -> Result<ExitCode, CommandFault>
+    requires { IsWithin 100_000 cards }
+{
+    let fares = fares_of(rt, table)?;
     let mut reader = rt.reader();
     let mut writer = io::writer(rt);
-    replay_text(rt.alloc(), &tariff, cards, &mut reader, &mut writer, TURNS)?;
+    replay_text(rt.alloc(), &fares, cards, &mut reader, &mut writer, TURNS)?;
     Ok(ExitCode::SUCCESS)
+}
+
+/// The fare table in a file, or the example table where no file is named.
+fn fares_of<R: AllocGlobal + Files>(rt: &R, path: Option<&str>) -> Result<Fares, CommandFault> {
+    match path {
+        Some(path) => {
+            let mut file = File::open(rt, path).map_err(|_| CommandFault::File)?;
+            table_of(rt.alloc(), &mut file, TURNS)
+        }
+        None => Ok(Fares::read(rt.alloc(), EXAMPLE_TABLE)?),
+    }
 }
 
 /// Checks the fare table in a file, and writes to standard output what it is.

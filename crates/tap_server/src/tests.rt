@@ -1,16 +1,19 @@
 mod check;
 mod fakes;
+mod journeys;
+mod report;
 mod rows;
 
-use crate::arguments::{Arguments, arguments_of, refuse_bytes};
+use crate::arguments::{Arguments, Serve, arguments_of, refuse_bytes};
 use crate::fault::{CommandFault, RunFault};
-use crate::laws::{each_touch_once, lines_of_requests, repeats_are_kept};
 use crate::replay::replay_text;
 use fakes::{Pieces, Taker};
-use oyster_account::Tariff;
+use fare_table::{EXAMPLE_TABLE, Fares, TableFault};
 use rows::{ASKED_AGAIN, FIRST_PATH, MISSING_TOUCHES, REFUSALS};
 use std::alloc::{AllocError, Global};
 use std::test::Fail;
+use tap_journal::JournalFault;
+use tap_office::CloseCause;
 
 /// A line that is asked, and the line that answers it.
 type Row = (&'static str, &'static str);
@@ -27,24 +30,27 @@ fn lines_of(alloc: Global, rows: &[Row], written: bool) -> Result<Vec<u8>, Alloc
     Ok(text)
 }
 
+/// The example table.
+fn example(alloc: Global) -> Result<Fares, Fail> {
+    Ok(
+        Fares::read(alloc, EXAMPLE_TABLE)
+            .ok()
+            .ok_or("the example table is valid")?,
+    )
+}
+
 /// What is written for bytes that come in one piece, and how the run ends.
-fn replayed(alloc: Global, bytes: &[u8]) -> (Vec<u8>, Result<(), RunFault>) {
+fn replayed(alloc: Global, fares: &Fares, bytes: &[u8]) -> (Vec<u8>, Result<(), RunFault>) {
     let mut reader = bytes;
     let mut written = Vec::new(alloc);
-    let ended = replay_text(
-        alloc,
-        &Tariff::example(),
-        10,
-        &mut reader,
-        &mut written,
-        1_000,
-    );
+    let ended = replay_text(alloc, fares, 10, &mut reader, &mut written, 1_000);
     (written, ended)
 }
 
 #[test]
 fn worked_lines_get_their_answers(rt: HostRuntime) -> Result<(), Fail> {
     let alloc = rt.alloc();
+    let fares = example(alloc)?;
     let mut asked_again = FIRST_PATH.to_vec(alloc)?;
     asked_again.extend_from_slice(&ASKED_AGAIN)?;
     let tables: [&[Row]; 5] = [
@@ -55,7 +61,7 @@ fn worked_lines_get_their_answers(rt: HostRuntime) -> Result<(), Fail> {
         &REFUSALS,
     ];
     for rows in tables {
-        let (written, ended) = replayed(alloc, lines_of(alloc, rows, false)?.as_slice());
+        let (written, ended) = replayed(alloc, &fares, lines_of(alloc, rows, false)?.as_slice());
         let count = rows.len();
         assert_eq!(rt; ended, Ok(()), "{count} rows");
         assert_eq!(rt;
@@ -68,17 +74,22 @@ fn worked_lines_get_their_answers(rt: HostRuntime) -> Result<(), Fail> {
 }
 
 #[test]
-fn digits_of_either_case_and_a_last_line_without_a_line_feed_are_read(rt: HostRuntime) {
+fn digits_of_either_case_and_a_last_line_without_a_line_feed_are_read(
+    rt: HostRuntime,
+) -> Result<(), Fail> {
     let alloc = rt.alloc();
-    let (written, ended) = replayed(alloc, b"0005050000000a\n0005050000000B");
+    let fares = example(alloc)?;
+    let (written, ended) = replayed(alloc, &fares, b"0005050000000a\n0005050000000B");
     assert_eq!(rt; ended, Ok(()));
     let vacant = b"000e8500000000000000000000000000\n000e8500000000000000000000000000\n";
     assert_eq!(rt; written.as_slice(), vacant.as_slice());
+    Ok(())
 }
 
 #[test]
-fn a_bad_line_is_answered_by_its_fault_and_ends_the_run(rt: HostRuntime) {
+fn a_bad_line_is_answered_by_its_fault_and_ends_the_run(rt: HostRuntime) -> Result<(), Fail> {
     let alloc = rt.alloc();
+    let fares = example(alloc)?;
     let good =
         b"000505000000010000000000000000000000000000000000000000000000000000000000000000000000000000000000000000000000000000000000000000000000";
     let bad: [(&[u8], u64, usize); 10] = [
@@ -94,17 +105,19 @@ fn a_bad_line_is_answered_by_its_fault_and_ends_the_run(rt: HostRuntime) {
         (b"00050500000001\n00050500000001\nzz", 3, 2 * 33 + 21),
     ];
     for (bytes, number, size) in bad {
-        let (written, ended) = replayed(alloc, bytes);
+        let (written, ended) = replayed(alloc, &fares, bytes);
         assert_eq!(rt; ended, Err(RunFault::BadLine(number)));
         let fault = b"0008ff01000000000000\n";
         assert!(rt; written.ends_with(fault), "line {number}");
         assert_eq!(rt; written.len(), size, "line {number}");
     }
+    Ok(())
 }
 
 #[test]
-fn a_line_is_too_long_at_its_129th_byte_and_not_before(rt: HostRuntime) {
+fn a_line_is_too_long_at_its_129th_byte_and_not_before(rt: HostRuntime) -> Result<(), Fail> {
     let alloc = rt.alloc();
+    let fares = example(alloc)?;
     let zeros = [b'0'; 129];
     for (size, fault) in [(128, RunFault::Read), (129, RunFault::BadLine(1))] {
         let mut reader = Pieces {
@@ -113,21 +126,16 @@ fn a_line_is_too_long_at_its_129th_byte_and_not_before(rt: HostRuntime) {
             fails: true,
         };
         let mut written = Vec::new(alloc);
-        let ended = replay_text(
-            alloc,
-            &Tariff::example(),
-            10,
-            &mut reader,
-            &mut written,
-            1_000,
-        );
+        let ended = replay_text(alloc, &fares, 10, &mut reader, &mut written, 1_000);
         assert_eq!(rt; ended, Err(fault), "{size} bytes");
     }
+    Ok(())
 }
 
 #[test]
 fn bytes_one_by_one_make_the_same_answers(rt: HostRuntime) -> Result<(), Fail> {
     let alloc = rt.alloc();
+    let fares = example(alloc)?;
     let asked = lines_of(alloc, &FIRST_PATH, false)?;
     let mut reader = Pieces {
         rest: asked.as_slice(),
@@ -140,14 +148,7 @@ fn bytes_one_by_one_make_the_same_answers(rt: HostRuntime) -> Result<(), Fail> {
         left: usize::MAX,
         fails: false,
     };
-    let ended = replay_text(
-        alloc,
-        &Tariff::example(),
-        10,
-        &mut reader,
-        &mut writer,
-        1_000,
-    );
+    let ended = replay_text(alloc, &fares, 10, &mut reader, &mut writer, 1_000);
     assert_eq!(rt; ended, Ok(()));
     assert_eq!(rt;
         writer.taken.as_slice(),
@@ -159,6 +160,7 @@ fn bytes_one_by_one_make_the_same_answers(rt: HostRuntime) -> Result<(), Fail> {
 #[test]
 fn answers_stand_where_a_read_fails_or_is_one_too_many(rt: HostRuntime) -> Result<(), Fail> {
     let alloc = rt.alloc();
+    let fares = example(alloc)?;
     let asked = lines_of(alloc, &FIRST_PATH, false)?;
     let answered = lines_of(alloc, &FIRST_PATH, true)?;
     for (fails, turns, ended) in [
@@ -172,14 +174,7 @@ fn answers_stand_where_a_read_fails_or_is_one_too_many(rt: HostRuntime) -> Resul
             fails,
         };
         let mut written = Vec::new(alloc);
-        let given = replay_text(
-            alloc,
-            &Tariff::example(),
-            10,
-            &mut reader,
-            &mut written,
-            turns,
-        );
+        let given = replay_text(alloc, &fares, 10, &mut reader, &mut written, turns);
         assert_eq!(rt; given, ended, "{turns} turns");
         assert_eq!(rt; written.as_slice(), answered.as_slice(), "{turns} turns");
     }
@@ -189,6 +184,7 @@ fn answers_stand_where_a_read_fails_or_is_one_too_many(rt: HostRuntime) -> Resul
 #[test]
 fn a_beginning_stands_where_a_write_fails_or_takes_nothing(rt: HostRuntime) -> Result<(), Fail> {
     let alloc = rt.alloc();
+    let fares = example(alloc)?;
     let asked = lines_of(alloc, &FIRST_PATH, false)?;
     let answered = lines_of(alloc, &FIRST_PATH, true)?;
     for (left, fails) in [(0, true), (45, true), (100, false), (179, true)] {
@@ -199,14 +195,7 @@ fn a_beginning_stands_where_a_write_fails_or_takes_nothing(rt: HostRuntime) -> R
             left,
             fails,
         };
-        let ended = replay_text(
-            alloc,
-            &Tariff::example(),
-            10,
-            &mut reader,
-            &mut writer,
-            1_000,
-        );
+        let ended = replay_text(alloc, &fares, 10, &mut reader, &mut writer, 1_000);
         assert_eq!(rt; ended, Err(RunFault::Write), "{left} bytes");
         assert_eq!(rt; writer.taken.len(), left);
         assert!(rt;
@@ -231,6 +220,26 @@ fn a_fault_is_told_in_one_line(rt: HostRuntime) -> Result<(), Fail> {
         assert_eq!(rt; passed_on.to_string(alloc)?.as_str(), told);
     }
     assert_eq!(rt; CommandFault::File.to_string(alloc)?.as_str(), "fault file");
+    let refused = CommandFault::from(TableFault::MissingSingle(1, 3));
+    let told = "fault table 8 MissingSingle 1 3";
+    assert_eq!(rt; refused.to_string(alloc)?.as_str(), told);
+    for (fault, told) in [
+        (JournalFault::WrongTable, "fault journal 5 WrongTable"),
+        (JournalFault::Damaged(0), "fault journal 7 Damaged 0"),
+    ] {
+        assert_eq!(rt; CommandFault::from(fault).to_string(alloc)?.as_str(), told);
+    }
+    assert_eq!(rt;
+        CommandFault::Listen.to_string(alloc)?.as_str(),
+        "fault listen"
+    );
+    let missing = CommandFault::from(CloseCause::SeatMissing);
+    assert_eq!(rt;
+        missing.to_string(alloc)?.as_str(),
+        "fault close 1 SeatMissing"
+    );
+    let no_memory = CommandFault::from(TableFault::Memory);
+    assert_eq!(rt; no_memory.to_string(alloc)?.as_str(), "fault run 1 Memory");
     Ok(())
 }
 
@@ -239,12 +248,26 @@ fn a_command_line_has_one_command_and_what_it_needs(rt: HostRuntime) -> Result<(
     let alloc = rt.alloc();
     for (number, cards) in [("1", 1), ("10", 10), ("100000", 100_000)] {
         let words = ["tap_server", "replay", "--cards", number];
-        assert_eq!(rt; arguments_of(alloc, &words)?, Arguments::Replay { cards });
+        let asked = Arguments::Replay { table: None, cards };
+        assert_eq!(rt; arguments_of(alloc, &words)?, asked);
     }
     let words = ["tap_server", "check", "--table", "fares.toml"];
     let table = "fares.toml";
     assert_eq!(rt; arguments_of(alloc, &words)?, Arguments::Check { table });
-    let refused: [&[&str]; 13] = [
+    let words = [
+        "tap_server",
+        "replay",
+        "--cards",
+        "10",
+        "--table",
+        "fares.toml",
+    ];
+    let asked = Arguments::Replay {
+        table: Some(table),
+        cards: 10,
+    };
+    assert_eq!(rt; arguments_of(alloc, &words)?, asked);
+    let refused: [&[&str]; 14] = [
         &["tap_server"],
         &["tap_server", "reply", "--cards", "10"],
         &["tap_server", "replay"],
@@ -252,6 +275,7 @@ fn a_command_line_has_one_command_and_what_it_needs(rt: HostRuntime) -> Result<(
         &["tap_server", "replay", "--cards", "0"],
         &["tap_server", "replay", "--cards", "100001"],
         &["tap_server", "replay", "--cards", "x"],
+        &["tap_server", "replay", "--cards", "+10"],
         &["tap_server", "replay", "--cards", "10", "--cards", "10"],
         &["tap_server", "--cards", "10", "replay"],
         &["tap_server", "check"],
@@ -278,15 +302,63 @@ fn a_command_line_has_one_command_and_what_it_needs(rt: HostRuntime) -> Result<(
     Ok(())
 }
 
+/// The words of a server's command line, with this number of lines.
+fn serve_words(lines: &str) -> [&str; 16] {
+    [
+        "tap_server",
+        "serve",
+        "--table",
+        "fares.toml",
+        "--journal",
+        "station.journal",
+        "--cards",
+        "10",
+        "--capacity",
+        "100",
+        "--listen",
+        "127.0.0.1:0",
+        "--lines",
+        lines,
+        "--connections",
+        "2",
+    ]
+}
+
 #[test]
-fn a_word_that_is_no_text_is_a_wrong_command_line(rt: HostRuntime) -> Result<(), Fail> {
-    assert_eq!(rt; refuse_bytes(rt.alloc())?.exit_code(), 2);
+fn a_server_needs_all_its_options_but_the_idle_time(rt: HostRuntime) -> Result<(), Fail> {
+    let alloc = rt.alloc();
+    let words = serve_words("64");
+    let mut asked = Serve {
+        table: "fares.toml",
+        journal: "station.journal",
+        cards: 10,
+        capacity: 100,
+        listen: "127.0.0.1:0",
+        lines: 64,
+        connections: 2,
+        idle: None,
+    };
+    assert_eq!(rt; arguments_of(alloc, &words)?, Arguments::Serve(asked));
+    let mut with_idle = words.to_vec(alloc)?;
+    with_idle.extend_from_slice(&["--idle", "600"])?;
+    asked.idle = Some(600);
+    assert_eq!(rt;
+        arguments_of(alloc, with_idle.as_slice())?,
+        Arguments::Serve(asked)
+    );
+    for lines in ["0", "65", "+2", "-1", "x"] {
+        let words = serve_words(lines);
+        let error = arguments_of(alloc, &words).err().ok_or("a refusal")?;
+        assert_eq!(rt; error.exit_code(), 2, "{lines} lines");
+    }
+    let fewer = words.get(..14).ok_or("so many words")?;
+    let error = arguments_of(alloc, fewer).err().ok_or("a refusal")?;
+    assert_eq!(rt; error.exit_code(), 2);
     Ok(())
 }
 
 #[test]
-fn laws_can_be_called() {
-    lines_of_requests();
-    each_touch_once();
-    repeats_are_kept();
+fn a_word_that_is_no_text_is_a_wrong_command_line(rt: HostRuntime) -> Result<(), Fail> {
+    assert_eq!(rt; refuse_bytes(rt.alloc())?.exit_code(), 2);
+    Ok(())
 }

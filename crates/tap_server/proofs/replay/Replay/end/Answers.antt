@@ -1,5 +1,4 @@
 use Rattle.std.proofs.Common.{[], subst, sym}
-use Rattle.oyster_account.specs.Tariff.{terms_of}
 use Rattle.tap_server.specs.Progress.{output_from}
 use Rattle.tap_server.specs.Run.{HasStopped}
 use Rattle.tap_server.proofs.ReplayLemmas.{HasWritten-begins, IsBeginning-of}
@@ -9,7 +8,7 @@ use Rattle.tap_server.proofs.replay.Replay.end.Goals as goal
 -- a failed write has written a beginning of what waited
 pub returns-in_err-write_out : goal.returns-in_err-write_out
 returns-in_err-write_out g c =
-    let output = output_from (terms_of c.args.tariff.now) c.args.self.now [] in
+    let output = output_from c.args.self.now [] in
     let failed = c.in_err-write_out.ensures.err in
     record {
       text = failed.1.text;

@@ -1,0 +1,14 @@
+use Rattle.std.proofs.Common.{Some}
+use Rattle.tap_office.specs.Opening.{opened_of}
+use Rattle.tap_server.proofs.server.serve_gates.Given as goal
+
+-- the name stands for the opening that was read
+abbrev pub ghosts-serve_opening-N-Named : goal.ghosts-serve_opening-N-Named
+ghosts-serve_opening-N-Named g a = record { opened = opened_of a.opening }
+
+abbrev pub ghosts-serve_opening-N-Ledger : goal.ghosts-serve_opening-N-Ledger
+ghosts-serve_opening-N-Ledger g a = record { name = a.opening.receipts; parts = a.opening.seats }
+
+abbrev pub ghosts-serve_opening-N-StoryName : goal.ghosts-serve_opening-N-StoryName
+ghosts-serve_opening-N-StoryName g a =
+    record { story = a.opening.story; table = Some (a.opening.fares, a.opening.header.cards) }

@@ -1,0 +1,94 @@
+-- What a connection's clerk answers to a request, and what it leaves of its seat and of its desk
+-- (docs/PROTOCOL.md, "Requests and their answers"; this project's choice).
+use Rattle.std.specs.Prelude.{◌≡◌, ◌⊎◌, ◌≤◌, ◌++◌, ◌∷◌, ℕ, List, take, length, Some, slice_get}
+use mathlib.Core.List.{IsPrefix}
+use Rattle.oyster_account.specs.declared.touch.Touch.{Touch}
+use Rattle.oyster_account.specs.declared.reply.Reply.{Reply}
+use Rattle.gate_session.specs.declared.request.Request.{Request}
+use Rattle.gate_session.specs.declared.request.Request.TheVariants as requests
+use Rattle.gate_session.specs.declared.answer.Answer.{Answer}
+use Rattle.gate_session.specs.declared.answer.Answer.TheVariants as answers
+use Rattle.reply_book.specs.declared.entry.Entry.{Entry}
+use Rattle.reply_book.specs.Legal.{IsLegal, history_of}
+use Rattle.tap_desk.specs.declared.desk.Enquiry.{Enquiry}
+use Rattle.tap_desk.specs.Desks.{Known}
+use Rattle.tap_desk.specs.Listed.{BeginsWith}
+use Rattle.tap_office.specs.declared.fault.SubmitFault.{SubmitFault}
+use Rattle.tap_office.specs.declared.receipt.Filed.{Filed}
+use Rattle.tap_office.specs.Enquiry.{IsAnswerFrom}
+use Rattle.tap_office.specs.Fault.{fault_code}
+use Rattle.tap_office.specs.Name.{Opened}
+use Rattle.tap_office.specs.Seat.{SeatState}
+
+-- what a clerk has: its seat, and its desk with the list that it saw last and its notes
+pub record ClerkState : Type 0 where
+  pub seat : SeatState
+  pub desk : Known
+
+-- a clerk at this seat and desk
+abbrev pub clerk_at : SeatState → Known → ClerkState
+clerk_at seat desk = record { seat = seat; desk = desk }
+
+-- a seat goes on: its number is the same, and its earlier receipts come first
+pub record GoesOn (before after : SeatState) : Type 0 where
+  pub number : after.number ≡ before.number
+  pub later : List Filed
+  pub receipts : after.receipts ≡ before.receipts ++ later
+
+-- a desk goes on: its list begins with the one before, and the notes before are still there
+pub record DeskGoesOn (before after : Known) : Type 0 where
+  pub list : IsPrefix before.list after.list
+  pub newer : List (List Entry)
+  pub notes : after.notes ≡ newer ++ before.notes
+
+-- a touch is answered by the reply that stands beside it, under its gate and number, in the note
+-- that the desk learnt; the note is legal, begins with what the opening found, is as long as the
+-- seat has seen then, and no shorter than it had seen before
+pub record IsReplied (opened : Opened) (before after : ClerkState) (touch : Touch) (answer : Answer)
+    : Type 0 where
+  pub note : List Entry
+  pub legal : IsLegal opened.scheme opened.header.cards (history_of note)
+  pub begins : take (length opened.recovered) note ≡ opened.recovered
+  pub place : ℕ
+  pub reply : Reply
+  pub seat : ℕ
+  pub stands : slice_get note place ≡ Some (record { touch = touch; reply = reply; seat = seat })
+  pub seen : after.seat.seen ≡ length note
+  pub not_below : before.seat.seen ≤ after.seat.seen
+  pub goes_on : GoesOn before.seat after.seat
+  pub learnt : after.desk.notes ≡ note ∷ before.desk.notes
+  pub list : after.desk.list ≡ before.desk.list
+  pub is : answer ≡ answers.Reply touch.gate touch.number reply
+
+-- a touch is answered by its fault, and seat and desk stay
+pub record IsRefused (before after : ClerkState) (touch : Touch) (answer : Answer) : Type 0 where
+  pub fault : SubmitFault
+  pub is : answer ≡ answers.Fault (fault_code fault) touch.gate touch.number
+  pub kept : after.seat ≡ before.seat
+  pub desk : after.desk ≡ before.desk
+
+-- an enquiry is answered by what is seen of the card after the desk's list, and by its length; that
+-- list begins with the one before and with each of the notes
+pub record IsTold (opened : Opened) (before after : ClerkState) (card : ℕ) (answer : Answer)
+    : Type 0 where
+  pub enquiry : Enquiry
+  pub from : IsAnswerFrom opened after.desk.list card enquiry
+  pub is : answer ≡ answers.Holding enquiry.view enquiry.front
+  pub list : IsPrefix before.desk.list after.desk.list
+  pub begins : BeginsWith before.desk.notes after.desk.list
+  pub notes : after.desk.notes ≡ before.desk.notes
+  pub kept : after.seat ≡ before.seat
+
+-- an enquiry for which the desk has no answer is answered by fault 3 of gate 0 and number 0
+pub record IsUntold (before after : ClerkState) (answer : Answer) : Type 0 where
+  pub is : answer ≡ answers.Fault 3 0 0
+  pub list : after.desk.list ≡ before.desk.list
+  pub notes : after.desk.notes ≡ before.desk.notes
+  pub kept : after.seat ≡ before.seat
+
+-- what a request is given
+abbrev pub HasGiven : Opened → ClerkState → ClerkState → Request → Answer → Type 0
+HasGiven opened before after (requests.Touch touch) answer =
+    IsReplied opened before after touch answer ⊎ IsRefused before after touch answer
+HasGiven opened before after (requests.Enquire card) answer =
+    IsTold opened before after card answer ⊎ IsUntold before after answer

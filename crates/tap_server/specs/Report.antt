@@ -1,0 +1,24 @@
+-- What `serve` writes on standard output (docs/OPERATING.md, "The report"; this project's choice).
+use Rattle.std.specs.Prelude.{ℕ, Bool, List, ◌++◌, codes, if◌then◌else◌}
+use Rattle.std.specs.Fmt.{decimal}
+use Rattle.tap_server.specs.declared.tally.Tally.{Tally}
+
+-- a name, a number, and what comes behind them
+abbrev pub told : List ℕ → ℕ → List ℕ → List ℕ
+told name number later = name ++ (decimal number ++ later)
+
+-- how many touches were found in the journal
+abbrev pub opened_line : ℕ → List ℕ
+opened_line opened = told (codes "opened ") opened (codes "\n")
+
+-- what a gate line's sessions came to
+abbrev pub tally_line : ℕ → Tally → List ℕ
+tally_line line tally =
+    told (codes "line ") line
+    (told (codes " connections ") tally.connections
+    (told (codes " requests ") tally.requests
+    (told (codes " answers ") tally.answers (codes "\n"))))
+
+-- how many entries the history has; an office whose disk failed is halted
+abbrev pub end_line : Bool → ℕ → List ℕ
+end_line halted entries = told (if halted then codes "halted " else codes "closed ") entries (codes "\n")

@@ -1,0 +1,108 @@
+"""What the scripts share: paths, running the program, and the tests' last line 'N passed, M failed'."""
+import os
+import pathlib
+import subprocess
+import sys
+import unittest
+
+TOP = pathlib.Path(__file__).resolve().parent.parent
+CRATES = TOP / "crates"
+PROGRAM = CRATES / "tap_server" / "out" / "tap_server"
+EXAMPLE = TOP / "docs" / "example.toml"
+VECTORS = TOP / "docs" / "vectors.txt"
+
+# How many seconds a run of the program may take.
+TIME = 60
+
+
+def kit():
+    """The folder of the toolchain's kit."""
+    said = subprocess.run(["rt", "doc"], capture_output=True, check=True, text=True)
+    return pathlib.Path(said.stdout.strip()).parent
+
+
+def library(folder, name, source):
+    """Builds a library that is put before the C library's, from this text, in the folder."""
+    text, built = folder / f"{name}.c", folder / f"{name}.so"
+    text.write_text(source)
+    clang = kit() / "toolchain" / "bin" / "clang"
+    subprocess.run([clang, "-shared", "-fPIC", "-O1", "-nostdlib", "-fuse-ld=lld", "-o", built, text], check=True)
+    return built
+
+
+def run(words, given=b"", **options):
+    """Runs the program: its status, its output, and what stands on standard error."""
+    words = [os.fsencode(word) for word in (PROGRAM, *words)]
+    done = subprocess.run(words, input=given, capture_output=True, timeout=TIME, **options)
+    return done.returncode, done.stdout, done.stderr.decode()
+
+
+def lines(texts):
+    """The bytes of a text of these lines."""
+    return "".join(text + "\n" for text in texts).encode()
+
+
+def vectors():
+    """The frames of docs/vectors.txt: pairs of a request and its answer, by the section that they stand in."""
+    sections, asked = {}, None
+    for line in VECTORS.read_text().split("\n"):
+        mark, _, rest = line.strip().partition(" ")
+        if mark.startswith("["):
+            pairs = sections.setdefault(line.strip().strip("[]"), [])
+        elif mark == ">":
+            asked = rest.strip()
+        elif mark == "<":
+            pairs.append((asked, rest.strip()))
+    return sections
+
+
+class Result(unittest.TextTestResult):
+    """Counts each subtest as one, and prints what fails as soon as it does."""
+
+    def __init__(self, *words, **options):
+        super().__init__(*words, **options)
+        self.passed = 0
+        self.failed = 0
+
+    def addSuccess(self, test):
+        super().addSuccess(test)
+        self.passed += 1
+
+    def addError(self, test, error):
+        super().addError(test, error)
+        self.tell(test, error)
+
+    def addFailure(self, test, error):
+        super().addFailure(test, error)
+        self.tell(test, error)
+
+    def addSubTest(self, test, subtest, error):
+        super().addSubTest(test, subtest, error)
+        if error is None:
+            self.passed += 1
+        else:
+            self.tell(subtest, error)
+
+    def tell(self, test, error):
+        self.failed += 1
+        print(f"{test}: {error[0].__name__}: {error[1]}", flush=True)
+
+
+class ProgramTest(unittest.TestCase):
+    """Tests that need the built program."""
+
+    @classmethod
+    def setUpClass(cls):
+        if not PROGRAM.is_file():
+            raise FileNotFoundError(f"{PROGRAM} isn't there: run 'rt run' in crates/tap_server, or 'rt ci'")
+
+
+def main():
+    """Runs the tests of the script that was started, and ends with its status."""
+    tests = unittest.defaultTestLoader.loadTestsFromModule(sys.modules["__main__"])
+    if len(sys.argv) > 1:
+        tests = unittest.defaultTestLoader.loadTestsFromNames(sys.argv[1:], sys.modules["__main__"])
+    with open(os.devnull, "w") as silent:
+        result = unittest.TextTestRunner(silent, resultclass=Result).run(tests)
+    print(f"{result.passed} passed, {result.failed} failed")
+    sys.exit(1 if result.failed or not result.passed else 0)
