@@ -112,7 +112,7 @@ fn serve_opening<
 }
 
 /// Serves all posts that there are.
-fn serve_posts<
+pub(crate) fn serve_posts<
     L: GateLine + Send,
     N: Named + Send + Sync,
     D: Disk + Drop + Send,
@@ -147,7 +147,7 @@ fn make_posts<'a, N: Named>(
 }
 
 /// A post whose line has served nobody yet.
-fn new_post<L, N: Named>(line: L, seat: Seat<N>, desk: Desk<N>) -> Post<L, N>
+pub(crate) fn new_post<L, N: Named>(line: L, seat: Seat<N>, desk: Desk<N>) -> Post<L, N>
     ensures { IsBelow (2 ^ 62) result.tally }
 {
     Post {
@@ -170,7 +170,7 @@ fn report_of<L, N: Named>(alloc: Global, posts: &[Post<L, N>]) -> Result<String,
 }
 
 /// The seats of the posts, in their order.
-fn take_seats<L: Drop, N: Named>(
+pub(crate) fn take_seats<L: Drop, N: Named>(
     alloc: Global,
     posts: Vec<Post<L, N>>,
 ) -> Result<Vec<Seat<N>>, AllocError> {

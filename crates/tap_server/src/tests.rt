@@ -3,6 +3,8 @@ mod fakes;
 mod journeys;
 mod report;
 mod rows;
+mod scripts;
+mod serve;
 
 use crate::arguments::{Arguments, Serve, arguments_of, refuse_bytes};
 use crate::fault::{CommandFault, RunFault};

@@ -1,0 +1,202 @@
+//! What no clause says of serving lines: that each connection is served, each answer is sent before
+//! the next request is waited for, and each session is counted by its end.
+ghost use Rattle.std.specs.Prelude.{◌≡◌, ◌^◌, IfOk};
+ghost use Rattle.std.specs.List.{All};
+ghost use Rattle.tap_office.specs.Name.{IsNameOf};
+ghost use Rattle.tap_office.specs.Opening.{opened_of};
+ghost use Rattle.tap_server.specs.Tally.{IsBelow};
+
+use super::scripts::{Frame, Heard, Script, ScriptLine, whole};
+use super::*;
+use crate::post::Post;
+use crate::server::{new_post, serve_posts, take_seats};
+use crate::tally::Tally;
+use std::marker::Brand;
+use std::process::Abort;
+use std::sync::Wait;
+use std::sync::atomic::{AtomicU64, Ordering};
+use std::thread::Threads;
+use tap_disk::{Choice, MemoryDisk};
+use tap_journal::Journal;
+use tap_office::{Desk, Named, Opening, Seat};
+
+/// The posts of a server: a line for each seat.
+fn posts_of<'a, N: Named>(
+    alloc: Global,
+    scripts: &'a [Script],
+    heard: &'a Heard,
+    seats: Vec<Seat<N>>,
+    desks: Vec<Desk<N>>,
+) -> Result<Vec<Post<ScriptLine<'a>, N>>, AllocError>
+    ensures { IfOk result (λ posts. All (λ post. IsBelow (2 ^ 62) post.tally) posts.items) }
+{
+    let mut posts = Vec::new(alloc);
+    for (seat, desk) in seats.into_iter().zip(desks) {
+        let line = ScriptLine {
+            line: posts.len(),
+            scripts,
+            next: 0,
+            heard,
+        };
+        posts.push(new_post(line, seat, desk))?;
+    }
+    Ok(posts)
+}
+
+/// Serves these connections from an office, closes it, and tells each line's tally and how many
+/// entries the history has.
+fn serve_lines<'a, N: Named + Send + Sync, R: Threads + Wait + Sync>(
+    rt: &R,
+    alloc: Global,
+    opening: Opening<MemoryDisk>,
+    scripts: &'a [Script],
+    heard: &'a Heard,
+) -> Result<(Vec<Tally>, u32), Fail>
+    requires { IsNameOf N.opened N.name N.parts N.story N.table (opened_of opening) }
+{
+    let (office, seats, desks) = opening
+        .office::<N, R>(rt, alloc)
+        .ok()
+        .ok_or("no office was made")?;
+    let mut posts = posts_of(alloc, scripts, heard, seats, desks)?;
+    serve_posts(rt, alloc, &office, &mut posts, 10);
+    let mut tallies = Vec::new(alloc);
+    for post in posts.as_slice() {
+        tallies.push(post.tally)?;
+    }
+    let closed = office
+        .close(rt, take_seats(alloc, posts)?)
+        .ok()
+        .ok_or("the office wasn't closed")?;
+    Ok((tallies, closed.book.len()))
+}
+
+/// Serves these connections over so many lines, from a new journal with room for two touches.
+fn served<R: AllocGlobal + Threads + Wait + Sync + Abort>(
+    rt: &R,
+    lines: u16,
+    scripts: &[Script],
+) -> Result<(Vec<Tally>, u32), Fail> {
+    let alloc = rt.alloc();
+    let heard = Heard {
+        bytes: AtomicU64::new(0),
+        wrong: AtomicU64::new(0),
+    };
+    let fares = example(alloc)?;
+    let disk = MemoryDisk::new(alloc)?;
+    let journal = Journal::create(disk, 2, 10, &fares.digest())
+        .ok()
+        .ok_or("no journal was made")?;
+    let disk = journal.close().crash(Choice::New)?;
+    let opening = Opening::read(alloc, disk, fares, 10, lines)
+        .ok()
+        .ok_or("the disk wasn't opened")?;
+    let told = serve_lines::<Brand, R>(rt, alloc, opening, scripts, &heard)?;
+    assert_eq!(rt; heard.wrong.load(Ordering::Relaxed), 0);
+    Ok(told)
+}
+
+#[test]
+fn each_connection_of_each_line_is_served_and_counted_by_its_end(
+    rt: HostRuntime,
+) -> Result<(), Fail> {
+    let scripts = [
+        // the touch whose answer was lost is sent again on the next connection
+        Script {
+            takes: 22,
+            ..whole(0, &[Frame::Issue, Frame::TopUp], &[Frame::Issued])
+        },
+        whole(
+            0,
+            &[Frame::TopUp, Frame::Ask],
+            &[Frame::ToppedUp, Frame::Holding],
+        ),
+        // a bad frame, a frame that is cut off, and a read that fails
+        whole(1, &[Frame::Bad, Frame::Issue], &[Frame::BadFrame]),
+        whole(1, &[Frame::Cut], &[]),
+        Script {
+            fails: true,
+            ..whole(1, &[], &[])
+        },
+    ];
+    let (tallies, entries) = served(&rt, 2, &scripts)?;
+    let first = Tally {
+        connections: 2,
+        requests: 4,
+        answers: 3,
+        ends: [1, 0, 0, 0, 1, 0, 0],
+    };
+    let second = Tally {
+        connections: 3,
+        requests: 0,
+        answers: 1,
+        ends: [0, 1, 1, 1, 0, 0, 0],
+    };
+    assert_eq!(rt; tallies.as_slice(), [first, second].as_slice());
+    assert_eq!(rt; entries, 2);
+    Ok(())
+}
+
+#[test]
+fn a_full_history_goes_on_to_answer(rt: HostRuntime) -> Result<(), Fail> {
+    let full = whole(
+        0,
+        &[
+            Frame::Issue,
+            Frame::TopUp,
+            Frame::Enter,
+            Frame::TopUp,
+            Frame::Ask,
+        ],
+        &[
+            Frame::Issued,
+            Frame::ToppedUp,
+            Frame::Full,
+            Frame::ToppedUp,
+            Frame::Holding,
+        ],
+    );
+    let (tallies, entries) = served(&rt, 1, &[full])?;
+    let tally = Tally {
+        connections: 1,
+        requests: 5,
+        answers: 5,
+        ends: [1, 0, 0, 0, 0, 0, 0],
+    };
+    assert_eq!(rt; tallies.as_slice(), [tally].as_slice());
+    assert_eq!(rt; entries, 2);
+    Ok(())
+}
+
+#[test]
+fn two_lines_are_served_at_once(rt: HostRuntime) -> Result<(), Fail> {
+    // each gate asks behind the first answers of both
+    let scripts = [
+        Script {
+            after: 44,
+            ..whole(
+                0,
+                &[Frame::Issue, Frame::Ask],
+                &[Frame::Issued, Frame::Empty],
+            )
+        },
+        Script {
+            after: 44,
+            ..whole(
+                1,
+                &[Frame::IssueOther, Frame::AskOther],
+                &[Frame::IssuedOther, Frame::Empty],
+            )
+        },
+    ];
+    let (tallies, entries) = served(&rt, 2, &scripts)?;
+    let tally = Tally {
+        connections: 1,
+        requests: 2,
+        answers: 2,
+        ends: [1, 0, 0, 0, 0, 0, 0],
+    };
+    assert_eq!(rt; tallies.as_slice(), [tally, tally].as_slice());
+    assert_eq!(rt; entries, 2);
+    Ok(())
+}
