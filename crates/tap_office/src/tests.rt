@@ -89,13 +89,20 @@ const REPLIES: [Reply; 4] = [
 /// The choices of a crash that each row tries.
 const CHOICES: [Choice; 4] = [Choice::Old, Choice::New, Choice::Torn(0), Choice::Torn(165)];
 
+/// A journal of no touches.
+fn new_journal(alloc: Global, capacity: u32) -> Result<Journal<MemoryDisk>, Fail> {
+    let digest = Fares::read(alloc, EXAMPLE_TABLE)?.digest();
+    let disk = MemoryDisk::new(alloc)?;
+    Ok(
+        Journal::create(disk, capacity, CARDS, &digest)
+            .ok()
+            .ok_or("no journal was made")?,
+    )
+}
+
 /// A disk with a journal of these touches.
 fn journal_of(alloc: Global, capacity: u32, touches: &[Touch]) -> Result<MemoryDisk, Fail> {
-    let fares = Fares::read(alloc, EXAMPLE_TABLE)?;
-    let disk = MemoryDisk::new(alloc)?;
-    let mut journal = Journal::create(disk, capacity, CARDS, &fares.digest())
-        .ok()
-        .ok_or("no journal was made")?;
+    let mut journal = new_journal(alloc, capacity)?;
     for touch in touches {
         journal.append(touch)?;
     }

@@ -6,21 +6,35 @@ use std::sync::Wait;
 use tap_disk::Disk;
 use tap_journal::JournalFault;
 
+/// Why a disk isn't opened, which is handed back.
+fn refused(
+    alloc: Global,
+    disk: MemoryDisk,
+    cards: u32,
+    seats: u16,
+) -> Result<OpenFault<MemoryDisk>, Fail> {
+    Ok(
+        read(alloc, disk, cards, seats)?
+            .err()
+            .ok_or("the disk was opened")?,
+    )
+}
+
+/// Whether a journal of no touches is opened for so many seats.
+fn is_opened(alloc: Global, seats: u16) -> Result<bool, Fail> {
+    Ok(read(alloc, journal_of(alloc, 5, &[])?, CARDS, seats)?.is_ok())
+}
+
 #[test]
 fn a_number_out_of_its_limits_costs_no_disk_call(rt: HostRuntime) -> Result<(), Fail> {
     let alloc = rt.alloc();
     for (cards, seats) in [(0, 1), (100_001, 1), (CARDS, 0), (CARDS, 65)] {
-        let disk = journal_of(alloc, 5, &[])?;
-        match read(alloc, disk, cards, seats)? {
-            Ok(_) => assert!(rt; false, "{cards} cards and {seats} seats"),
-            Err(fault) => {
-                assert_eq!(rt; fault.cause, JournalFault::BadLimit);
-                assert_eq!(rt; fault.disk.calls(), 0);
-            }
-        }
+        let fault = refused(alloc, journal_of(alloc, 5, &[])?, cards, seats)?;
+        assert_eq!(rt; fault.cause, JournalFault::BadLimit);
+        assert_eq!(rt; fault.disk.calls(), 0);
     }
     for seats in [1, 64] {
-        assert!(rt; read(alloc, journal_of(alloc, 5, &[])?, CARDS, seats)?.is_ok());
+        assert!(rt; is_opened(alloc, seats)?);
     }
     Ok(())
 }
@@ -29,13 +43,9 @@ fn a_number_out_of_its_limits_costs_no_disk_call(rt: HostRuntime) -> Result<(), 
 fn a_touch_that_was_journalled_twice_is_damage(rt: HostRuntime) -> Result<(), Fail> {
     let alloc = rt.alloc();
     for (touches, place) in [([ISSUE, ISSUE, TOP_UP], 1), ([ISSUE, TOP_UP, ISSUE], 2)] {
-        match read(alloc, journal_of(alloc, 5, &touches)?, CARDS, 1)? {
-            Ok(_) => assert!(rt; false, "place {place}"),
-            Err(fault) => {
-                assert_eq!(rt; fault.cause, JournalFault::Damaged(place));
-                assert_eq!(rt; fault.disk.failures(), 0);
-            }
-        }
+        let fault = refused(alloc, journal_of(alloc, 5, &touches)?, CARDS, 1)?;
+        assert_eq!(rt; fault.cause, JournalFault::Damaged(place));
+        assert_eq!(rt; fault.disk.failures(), 0);
     }
     Ok(())
 }
@@ -49,17 +59,13 @@ fn an_opening_that_failed_can_be_made_again(rt: HostRuntime) -> Result<(), Fail>
     for stop in 0..calls {
         let mut disk = base.crash(Choice::New)?;
         disk.stop_after(stop);
-        match read(alloc, disk, CARDS, 2)? {
-            Ok(_) => assert!(rt; false, "stopped after {stop}"),
-            Err(fault) => {
-                assert_eq!(rt; fault.cause, JournalFault::Device, "stopped after {stop}");
-                let mut disk = fault.disk;
-                disk.fail_at(0);
-                let opening = open(alloc, disk, 2)?;
-                let steps = [from_first(TOP_UP, Answer::Again(1, REPLIES[1]))];
-                assert_eq!(rt; work(&rt, alloc, opening, &steps)?.opened, 2);
-            }
-        }
+        let fault = refused(alloc, disk, CARDS, 2)?;
+        assert_eq!(rt; fault.cause, JournalFault::Device, "stopped after {stop}");
+        let mut disk = fault.disk;
+        disk.fail_at(0);
+        let opening = open(alloc, disk, 2)?;
+        let steps = [from_first(TOP_UP, Answer::Again(1, REPLIES[1]))];
+        assert_eq!(rt; work(&rt, alloc, opening, &steps)?.opened, 2);
     }
     Ok(())
 }

@@ -36,6 +36,25 @@ fn submit_again<N: Named, R: Wait>(
     told(office.submit(rt, seat, touch))
 }
 
+/// Submits the touches, and compares their answers.
+fn submit_steps<N: Named, R: Wait + Abort>(
+    rt: &R,
+    office: &Office<N, MemoryDisk>,
+    seats: &mut [Seat<N>],
+    steps: &[Step],
+) {
+    let mut row = 0u32;
+    for step in steps {
+        assert!(rt; step.seat < seats.len());
+        let seat = &mut seats[step.seat];
+        let before = seat.seen();
+        let answer = submit_again(rt, office, seat, step.touch);
+        assert_eq!(rt; answer, step.want, "step {row}");
+        assert!(rt; before <= seat.seen(), "step {row}");
+        row = row.saturating_add(1);
+    }
+}
+
 /// Opens an office for two seats, submits the touches, asks for card 1, and closes with as many
 /// seats as are not kept back.
 fn work_through<N: Named, R: Wait + Abort>(
@@ -51,16 +70,7 @@ fn work_through<N: Named, R: Wait + Abort>(
         .office::<N, R>(rt, alloc)
         .ok()
         .ok_or("no office was made")?;
-    let mut row = 0u32;
-    for step in steps {
-        assert!(rt; step.seat < seats.len());
-        let seat = &mut seats[step.seat];
-        let before = seat.seen();
-        let answer = submit_again(rt, &office, seat, step.touch);
-        assert_eq!(rt; answer, step.want, "step {row}");
-        assert!(rt; before <= seat.seen(), "step {row}");
-        row = row.saturating_add(1);
-    }
+    submit_steps(rt, &office, seats.as_mut_slice(), steps);
     let mut desk = desks.pop().ok_or("no desk was made")?;
     let asked = desk.enquire(1);
     let opened = office.opened();
