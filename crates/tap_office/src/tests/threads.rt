@@ -68,18 +68,14 @@ fn submit_all<N: Named + Send + Sync, R: Threads + Wait + Sync>(
     );
 }
 
-/// Opens an office for two gates that submit three top-ups each side by side, and closes it.
-fn two_gates<N: Named + Send + Sync, R: Threads + Wait + Sync + Abort>(
-    rt: &R,
+/// The gates 1 and 2, of which the first learns its receipts.
+fn make_gates<N: Named>(
     alloc: Global,
-    opening: Opening<MemoryDisk>,
-) -> Result<Ended, Fail>
-    requires { IsNameOf N.opened N.name N.parts N.story N.table (opened_of opening) }
-{
-    let (office, mut seats, mut desks) = opening
-        .office::<N, R>(rt, alloc)
-        .ok()
-        .ok_or("no office was made")?;
+    seats: Vec<Seat<N>>,
+    desks: Vec<Desk<N>>,
+) -> Result<Vec<Gate<N>>, Fail> {
+    let mut seats = seats;
+    let mut desks = desks;
     let mut gates = Vec::with_capacity(alloc, 2)?;
     for number in [1, 2] {
         gates.push(Gate {
@@ -90,6 +86,39 @@ fn two_gates<N: Named + Send + Sync, R: Threads + Wait + Sync + Abort>(
             answered: 0,
         })?;
     }
+    Ok(gates)
+}
+
+/// A gate has a receipt for each of its three top-ups, whose places it adds to these.
+fn take_places<N: Named, R: Abort>(
+    rt: &R,
+    gate: &Gate<N>,
+    places: &mut Vec<u32>,
+) -> Result<(), Fail> {
+    assert_eq!(rt; gate.answered, 3);
+    assert_eq!(rt; gate.seat.receipts().len(), 3);
+    let mut submitted = 1;
+    for filed in gate.seat.receipts() {
+        assert_eq!(rt; filed.touch, pound(gate.number, submitted));
+        submitted = submitted.saturating_add(1);
+        places.push(filed.place)?;
+    }
+    Ok(())
+}
+
+/// Opens an office for two gates that submit three top-ups each side by side, and closes it.
+fn two_gates<N: Named + Send + Sync, R: Threads + Wait + Sync + Abort>(
+    rt: &R,
+    alloc: Global,
+    opening: Opening<MemoryDisk>,
+) -> Result<Ended, Fail>
+    requires { IsNameOf N.opened N.name N.parts N.story N.table (opened_of opening) }
+{
+    let (office, seats, desks) = opening
+        .office::<N, R>(rt, alloc)
+        .ok()
+        .ok_or("no office was made")?;
+    let mut gates = make_gates(alloc, seats, desks)?;
     assert!(rt; !gates.is_empty());
     submit_all(rt, &office, gates.as_mut_slice());
     let opened = office.opened();
@@ -97,24 +126,12 @@ fn two_gates<N: Named + Send + Sync, R: Threads + Wait + Sync + Abort>(
     let mut places = Vec::new(alloc);
     let mut asked = Vec::new(alloc);
     for _ in 0..2 {
-        let Gate {
-            number,
-            seat,
-            mut desk,
-            learns: _,
-            answered,
-        } = gates.pop().ok_or("a gate is missing")?;
-        let answer = desk.enquire(1).ok_or("a desk had no answer")?;
-        assert!(rt; seat.seen() <= answer.front);
+        let mut gate = gates.pop().ok_or("a gate is missing")?;
+        take_places(rt, &gate, &mut places)?;
+        let answer = gate.desk.enquire(1).ok_or("a desk had no answer")?;
+        assert!(rt; gate.seat.seen() <= answer.front);
+        let Gate { seat, desk, .. } = gate;
         asked.push((desk, answer))?;
-        assert_eq!(rt; answered, 3);
-        assert_eq!(rt; seat.receipts().len(), 3);
-        let mut submitted = 1;
-        for filed in seat.receipts() {
-            assert_eq!(rt; filed.touch, pound(number, submitted));
-            submitted = submitted.saturating_add(1);
-            places.push(filed.place)?;
-        }
         back.push(seat)?;
     }
     for place in [1, 2, 3, 4, 5, 6] {
