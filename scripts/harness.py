@@ -1,8 +1,10 @@
 """What the scripts share: paths, running the program, and the tests' last line 'N passed, M failed'."""
+import hashlib
 import os
 import pathlib
 import subprocess
 import sys
+import tempfile
 import unittest
 
 TOP = pathlib.Path(__file__).resolve().parent.parent
@@ -35,6 +37,21 @@ def run(words, given=b"", **options):
     words = [os.fsencode(word) for word in (PROGRAM, *words)]
     done = subprocess.run(words, input=given, capture_output=True, timeout=TIME, **options)
     return done.returncode, done.stdout, done.stderr.decode()
+
+
+def check(table, path="table.toml", **options):
+    """Checks a fare table of these bytes, in a file of this name."""
+    with tempfile.TemporaryDirectory() as folder:
+        file = os.path.join(os.fsencode(folder), os.fsencode(path))
+        with open(file, "wb") as writer:
+            writer.write(table)
+        return run([b"check", b"--table", file], **options)
+
+
+def valid(stations, singles, caps, table):
+    """What is written for a valid fare table."""
+    digest = hashlib.sha256(table).hexdigest()
+    return 0, f"stations {stations}\nsingles {singles}\ncaps {caps}\ndigest {digest}\n".encode(), ""
 
 
 def lines(texts):

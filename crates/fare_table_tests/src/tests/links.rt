@@ -1,0 +1,82 @@
+//! What two stations have between them: the minutes of a leg, and those of an interchange.
+use super::{Change, table_of};
+use fare_table::{EXAMPLE_TABLE, Fares};
+use money_time::Window;
+use std::process::Abort;
+use std::test::Fail;
+
+/// Two stations, and the minutes of a leg between them, its pence at peak and its highest zone.
+pub type Leg = (u16, u16, u32, u32, u8);
+
+/// Two stations, and the minutes of their interchange.
+pub type Walk = (u16, u16, Option<u32>);
+
+/// The minutes of the example's pair, a second pair, and a second interchange.
+const MORE_ROWS: [Change; 2] = [
+    (
+        "off_peak = 200}]",
+        "off_peak = 200, minutes = 75}, \
+            {from = 5, to = 1, lo = 1, hi = 9, peak = 2, off_peak = 1}]",
+    ),
+    (
+        "minutes = 10}]",
+        "minutes = 10}, {a = 5, b = 2, minutes = 20}]",
+    ),
+];
+
+/// Legs of the table with more rows.
+const LEGS: [Leg; 6] = [
+    (2, 4, 75, 230, 2),
+    (4, 2, 75, 230, 2),
+    (5, 1, 90, 2, 9),
+    (1, 5, 90, 2, 9),
+    (1, 2, 90, 350, 2),
+    (2, 2, 90, 210, 2),
+];
+
+/// Interchanges of the table with more rows.
+const WALKS: [Walk; 9] = [
+    (1, 4, Some(10)),
+    (4, 1, Some(10)),
+    (5, 2, Some(20)),
+    (2, 5, Some(20)),
+    (1, 5, None),
+    (5, 4, None),
+    (1, 1, None),
+    (1, 9, None),
+    (0, 65535, None),
+];
+
+/// Legs of a table, in the early window.
+pub fn assert_legs(rt: &impl Abort, fares: &Fares, rows: &[Leg]) {
+    for (from, to, minutes, pence, hi) in rows {
+        assert!(rt; fares.station(*from).is_some());
+        assert!(rt; fares.station(*to).is_some());
+        assert_eq!(rt; fares.leg_minutes(*from, *to), *minutes, "{from} to {to}");
+        let fare = fares.fare(*from, *to, Window::Early);
+        assert_eq!(rt; fare.pence, *pence, "{from} to {to}");
+        assert_eq!(rt; fare.hi, *hi, "{from} to {to}");
+    }
+}
+
+// The second pair gives a price below each single, and a range of its own.
+#[test]
+fn a_pair_counts_in_both_directions(rt: HostRuntime) -> Result<(), Fail> {
+    let fares = table_of(rt.alloc(), EXAMPLE_TABLE, &MORE_ROWS)?;
+    assert_legs(&rt, &fares, &LEGS);
+    Ok(())
+}
+
+/// Interchanges of a table.
+pub fn assert_interchanges(rt: &impl Abort, fares: &Fares, rows: &[Walk]) {
+    for (from, to, minutes) in rows {
+        assert_eq!(rt; fares.interchange(*from, *to), *minutes, "{from} to {to}");
+    }
+}
+
+#[test]
+fn an_interchange_counts_in_both_directions(rt: HostRuntime) -> Result<(), Fail> {
+    let fares = table_of(rt.alloc(), EXAMPLE_TABLE, &MORE_ROWS)?;
+    assert_interchanges(&rt, &fares, &WALKS);
+    Ok(())
+}
