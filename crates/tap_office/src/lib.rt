@@ -25,6 +25,3 @@ pub use office::Office;
 pub use opening::{Opening, SEAT_LIMIT};
 pub use receipt::{Filed, Receipt};
 pub use seat::Seat;
-
-#[cfg(test)]
-mod tests;

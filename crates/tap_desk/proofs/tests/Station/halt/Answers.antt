@@ -1,6 +1,0 @@
-use Rattle.oyster_account.specs.Scheme.{scheme_of}
-use Rattle.tap_desk.proofs.tests.Station.halt.Goals as goal
-
--- making room leaves the book standing
-pub stage-requires-clause-stands : goal.stage-requires-clause-stands
-stage-requires-clause-stands g c = c.ready.ensures.stands (scheme_of c.self.inside.fares) c.self.invariant.3

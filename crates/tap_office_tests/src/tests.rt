@@ -1,0 +1,229 @@
+//! What no clause says of an office: replies in pence, each stopped and failed disk call with each
+//! crash, seats on threads, and that it answers at all.
+mod crashes;
+mod desks;
+mod openings;
+mod steps;
+mod threads;
+
+use fare_table::{EXAMPLE_TABLE, Fares};
+use oyster_account::{Act, CardState, CardView, Reply, Touch};
+use reply_book::Book;
+use std::alloc::Global;
+use std::test::Fail;
+use tap_desk::Enquiry;
+use tap_disk::{Choice, MemoryDisk};
+use tap_journal::{Journal, OpenFault};
+use tap_office::{CloseCause, CloseFault, Closed, Opening, SubmitFault};
+
+/// How many cards each office of these tests has.
+const CARDS: u32 = 10;
+
+/// Card 1 is issued, at 07:50 on Monday, 6 January 2025.
+const ISSUE: Touch = Touch {
+    gate: 7,
+    number: 1,
+    card: 1,
+    act: Act::Issue {
+        moment: 1_736_149_800,
+    },
+};
+
+/// It is topped up by 20 pounds, at 07:55.
+const TOP_UP: Touch = Touch {
+    gate: 7,
+    number: 2,
+    card: 1,
+    act: Act::TopUp {
+        pence: 2000,
+        moment: 1_736_150_100,
+    },
+};
+
+/// It is touched in at station 2, at 08:00.
+const ENTER: Touch = Touch {
+    gate: 7,
+    number: 3,
+    card: 1,
+    act: Act::Enter {
+        station: 2,
+        moment: 1_736_150_400,
+    },
+};
+
+/// It is touched out at station 1, at 08:25.
+const LEAVE: Touch = Touch {
+    gate: 7,
+    number: 4,
+    card: 1,
+    act: Act::Leave {
+        station: 1,
+        moment: 1_736_151_900,
+    },
+};
+
+/// A gate's top-up of card 1, at 07:55.
+const fn top_up(gate: u16, number: u32, pence: u32) -> Touch {
+    Touch {
+        gate,
+        number,
+        card: 1,
+        act: Act::TopUp {
+            pence,
+            moment: 1_736_150_100,
+        },
+    }
+}
+
+/// The replies to the four, by docs/PROTOCOL.md.
+const REPLIES: [Reply; 4] = [
+    Reply {
+        verdict: 8,
+        change: 0,
+        balance: 0,
+    },
+    Reply {
+        verdict: 7,
+        change: 2000,
+        balance: 2000,
+    },
+    Reply {
+        verdict: 1,
+        change: -900,
+        balance: 1100,
+    },
+    Reply {
+        verdict: 4,
+        change: 550,
+        balance: 1650,
+    },
+];
+
+/// The choices of a crash that each row tries.
+const CHOICES: [Choice; 4] = [Choice::Old, Choice::New, Choice::Torn(0), Choice::Torn(165)];
+
+/// The example table.
+fn table(alloc: Global) -> Result<Fares, Fail> {
+    Ok(Fares::read(alloc, EXAMPLE_TABLE)?)
+}
+
+/// A journal of no touches.
+fn new_journal(alloc: Global, capacity: u32) -> Result<Journal<MemoryDisk>, Fail> {
+    let digest = table(alloc)?.digest();
+    let disk = MemoryDisk::new(alloc)?;
+    Ok(
+        Journal::create(disk, capacity, CARDS, &digest)
+            .ok()
+            .ok_or("no journal was made")?,
+    )
+}
+
+/// A disk with a journal of these touches.
+fn journal_of(alloc: Global, capacity: u32, touches: &[Touch]) -> Result<MemoryDisk, Fail> {
+    let mut journal = new_journal(alloc, capacity)?;
+    for touch in touches {
+        journal.append(touch)?;
+    }
+    Ok(journal.close().crash(Choice::New)?)
+}
+
+/// An opening of the disk, or why there is none.
+type Read = Result<Opening<MemoryDisk>, OpenFault<MemoryDisk>>;
+
+/// Reads the disk, by the example table.
+fn read(alloc: Global, disk: MemoryDisk, cards: u32, seats: u16) -> Result<Read, Fail> {
+    Ok(Opening::read(alloc, disk, table(alloc)?, cards, seats))
+}
+
+/// Reads a disk that can be read, for this many seats.
+fn open(alloc: Global, disk: MemoryDisk, seats: u16) -> Result<Opening<MemoryDisk>, Fail> {
+    Ok(
+        read(alloc, disk, CARDS, seats)?
+            .ok()
+            .ok_or("the disk wasn't opened")?,
+    )
+}
+
+/// How an office ended.
+#[derive(Drop)]
+struct Ended {
+    /// How many touches were found at the opening.
+    opened: u32,
+    /// What a desk answered of card 1 at the end, before the closing.
+    asked: Option<Enquiry>,
+    /// What it answered after the closing.
+    asked_late: Option<Enquiry>,
+    /// Why it wasn't closed.
+    cause: Option<CloseCause>,
+    halted: bool,
+    book: Book,
+    disk: MemoryDisk,
+}
+
+/// How an office ended that was closed like this, by what a desk answered before and after.
+fn end_of(
+    opened: u32,
+    asked: Option<Enquiry>,
+    asked_late: Option<Enquiry>,
+    closed: Result<Closed<MemoryDisk>, CloseFault<MemoryDisk>>,
+) -> Ended {
+    match closed {
+        Ok(closed) => Ended {
+            opened,
+            asked,
+            asked_late,
+            cause: None,
+            halted: closed.halted,
+            book: closed.book,
+            disk: closed.disk,
+        },
+        Err(fault) => Ended {
+            opened,
+            asked,
+            asked_late,
+            cause: Some(fault.cause),
+            halted: fault.halted,
+            book: fault.book,
+            disk: fault.disk,
+        },
+    }
+}
+
+/// What a touch is answered.
+#[derive(Clone, Copy, Debug, PartialEq, Eq)]
+enum Answer {
+    /// It is new, with this place and reply.
+    First(u32, Reply),
+    /// It is a repeat, with its place and first reply.
+    Again(u32, Reply),
+    /// It is refused.
+    Fault(SubmitFault),
+}
+
+/// A touch from a seat, and what it is to be answered.
+#[derive(Clone, Copy)]
+struct Step {
+    seat: usize,
+    touch: Touch,
+    want: Answer,
+}
+
+/// The step of a touch from the first seat.
+const fn from_first(touch: Touch, want: Answer) -> Step {
+    Step {
+        seat: 0,
+        touch,
+        want,
+    }
+}
+
+/// What is seen of card 1 outside with this balance, and how many entries there are.
+const fn outside(balance: i64, front: u32) -> Option<Enquiry> {
+    Some(Enquiry {
+        view: CardView {
+            state: CardState::Outside,
+            balance,
+        },
+        front,
+    })
+}

@@ -1,0 +1,239 @@
+//! Desks that ask without pause beside seats that commit.
+ghost use Rattle.std.specs.Prelude.{◌<◌, length};
+ghost use Rattle.std.specs.Thread.{IsSync};
+ghost use Rattle.tap_office.specs.Name.{IsNameOf};
+ghost use Rattle.tap_office.specs.Opening.{opened_of};
+
+use super::*;
+use std::marker::Brand;
+use std::process::Abort;
+use std::sync::Wait;
+use std::thread;
+use std::thread::Threads;
+use tap_office::{Desk, Named, Office, Seat};
+
+/// How many touches each gate commits.
+const TOUCHES: u32 = 20;
+
+/// How often a desk that commits nothing asks.
+const ENQUIRIES: u32 = 3000;
+
+/// What a desk was answered about card 1.
+#[derive(Drop)]
+struct Log {
+    /// The answers that were of more entries than the one before.
+    heard: Vec<Enquiry>,
+    /// How many answers there were.
+    answers: u32,
+    /// How many answers were of less than there had been, or were none.
+    wrong: u32,
+}
+
+impl Log {
+    /// Counts an answer that was wrong.
+    fn blame(&mut self) {
+        self.wrong = self.wrong.saturating_add(1);
+    }
+
+    /// Enters an answer, where there have to be so many entries at least.
+    fn enter(&mut self, answer: Option<Enquiry>, least: u32) {
+        let Some(answer) = answer else {
+            self.blame();
+            return;
+        };
+        self.answers = self.answers.saturating_add(1);
+        let last = match self.heard.last() {
+            Some(heard) => heard.front,
+            None => 0,
+        };
+        if answer.front < last || answer.front < least {
+            self.blame();
+        }
+        if answer.front > last && self.heard.push(answer).is_err() {
+            self.blame();
+        }
+    }
+}
+
+/// A worker with a thread of its own: it commits, or it asks.
+#[derive(Drop)]
+struct Worker<N: Named> {
+    number: u16,
+    seat: Seat<N>,
+    desk: Desk<N>,
+    commits: bool,
+    log: Log,
+}
+
+impl<N: Named> Worker<N> {
+    /// Commits a gate's top-ups of card 1, and asks after each. They are of as many pence as no
+    /// other sum of them would come to by chance.
+    fn commit<R: Wait>(&mut self, rt: &R, office: &Office<N, MemoryDisk>) {
+        let pence = if self.number == 1 { 100 } else { 1 };
+        for number in 0..TOUCHES {
+            let touch = top_up(self.number, number, pence);
+            match commit_one(rt, office, &mut self.seat, &mut self.desk, touch) {
+                Some(place) => self
+                    .log
+                    .enter(self.desk.enquire(1), place.saturating_add(1)),
+                None => self.log.blame(),
+            }
+        }
+    }
+
+    /// Does its work.
+    fn work<R: Wait>(&mut self, rt: &R, office: &Office<N, MemoryDisk>) {
+        if self.commits {
+            self.commit(rt, office);
+            return;
+        }
+        for _ in 0..ENQUIRIES {
+            self.log.enter(self.desk.enquire(1), 0);
+        }
+    }
+}
+
+/// Commits a touch, and has the desk learn its receipt. It answers the touch's place.
+fn commit_one<N: Named, R: Wait>(
+    rt: &R,
+    office: &Office<N, MemoryDisk>,
+    seat: &mut Seat<N>,
+    desk: &mut Desk<N>,
+    touch: Touch,
+) -> Option<u32> {
+    let receipt = office.submit(rt, seat, touch).ok()?;
+    let place = receipt.place;
+    desk.learn(receipt);
+    Some(place)
+}
+
+/// Has each worker do its work, in a thread of its own where one can be made.
+fn work_all<N: Named + Send + Sync, R: Threads + Wait + Sync>(
+    rt: &R,
+    office: &Office<N, MemoryDisk>,
+    workers: &mut [Worker<N>],
+)
+    requires { 0 < length workers.old }
+{
+    let threads = workers.len();
+    thread::for_each_mut(
+        rt,
+        workers,
+        threads,
+        &|_, worker: &mut Worker<N>|
+            requires { IsSync R.row }
+        { worker.work(rt, office) },
+    );
+}
+
+/// A worker on each of these seats, with a desk. The first two commit.
+fn workers_of<N: Named>(
+    alloc: Global,
+    seats: Vec<Seat<N>>,
+    desks: Vec<Desk<N>>,
+) -> Option<Vec<Worker<N>>> {
+    let mut workers = Vec::with_capacity(alloc, 4).ok()?;
+    let mut number: u16 = 0;
+    for (seat, desk) in seats.into_iter().zip(desks) {
+        number = number.saturating_add(1);
+        workers
+            .push(Worker {
+                number,
+                seat,
+                desk,
+                commits: number <= 2,
+                log: Log {
+                    heard: Vec::new(alloc),
+                    answers: 0,
+                    wrong: 0,
+                },
+            })
+            .ok()?;
+    }
+    Some(workers)
+}
+
+/// The workers' seats, and what each worker heard: it had each answer, and none was wrong.
+fn left_by<N: Named, R: Abort>(
+    rt: &R,
+    alloc: Global,
+    workers: Vec<Worker<N>>,
+) -> Option<(Vec<Seat<N>>, Vec<Vec<Enquiry>>)> {
+    let mut seats = Vec::new(alloc);
+    let mut heard = Vec::new(alloc);
+    for worker in workers {
+        let answers = if worker.commits { TOUCHES } else { ENQUIRIES };
+        assert_eq!(rt; worker.log.wrong, 0);
+        assert_eq!(rt; worker.log.answers, answers);
+        seats.push(worker.seat).ok()?;
+        heard.push(worker.log.heard).ok()?;
+    }
+    Some((seats, heard))
+}
+
+/// The touches of a book, oldest first.
+fn touches_in(alloc: Global, book: &Book) -> Option<Vec<Touch>> {
+    let mut touches = Vec::new(alloc);
+    for place in 0..book.len() {
+        touches.push(book.entry(place)?.touch).ok()?;
+    }
+    Some(touches)
+}
+
+/// Two gates commit beside two desks that ask. It answers the touches of the history at the end,
+/// and what each desk heard.
+fn commit_and_ask<N: Named + Send + Sync, R: Threads + Wait + Sync + Abort>(
+    rt: &R,
+    alloc: Global,
+    opening: Opening<MemoryDisk>,
+) -> Result<(Vec<Touch>, Vec<Vec<Enquiry>>), Fail>
+    requires { IsNameOf N.opened N.name N.parts N.story N.table (opened_of opening) }
+{
+    let (office, seats, desks) = opening
+        .office::<N, R>(rt, alloc)
+        .ok()
+        .ok_or("no office was made")?;
+    let mut workers = workers_of(alloc, seats, desks).expect(rt, "no workers were made");
+    assert!(rt; !workers.is_empty());
+    work_all(rt, &office, workers.as_mut_slice());
+    let (seats, heard) = left_by(rt, alloc, workers).expect(rt, "no seats were left");
+    let closed = office
+        .close(rt, seats)
+        .ok()
+        .expect(rt, "the office wasn't closed");
+    let touches = touches_in(alloc, &closed.book).expect(rt, "an entry is missing");
+    Ok((touches, heard))
+}
+
+/// What is seen of card 1 after these touches, of which a book can hold a million.
+fn view_after(alloc: Global, fares: &Fares, touches: &[Touch]) -> Option<CardView> {
+    if touches.len() > 1_000_000 {
+        return None;
+    }
+    let book = Book::replay(alloc, CARDS, fares, touches).ok()?;
+    Some(book.view(1))
+}
+
+/// Each answer is the view of card 1 after as many touches of the history as it was of.
+fn compare(rt: &impl Abort, alloc: Global, fares: &Fares, touches: &[Touch], answers: &[Enquiry]) {
+    assert!(rt; !answers.is_empty());
+    for answer in answers {
+        let front = answer.front as usize;
+        assert!(rt; front <= touches.len());
+        let view = view_after(alloc, fares, &touches[..front]);
+        assert_eq!(rt; Some(answer.view), view, "front {front}");
+    }
+}
+
+#[test]
+fn desks_answer_from_beginnings_of_the_history(rt: HostRuntime) -> Result<(), Fail> {
+    let alloc = rt.alloc();
+    let opening = open(alloc, journal_of(alloc, 100, &[ISSUE])?, 4)?;
+    let (touches, heard) = commit_and_ask::<Brand, HostRuntime>(&rt, alloc, opening)?;
+    assert_eq!(rt; touches.len(), 41);
+    let fares = table(alloc)?;
+    for answers in &heard {
+        compare(&rt, alloc, &fares, &touches, answers);
+    }
+    Ok(())
+}
