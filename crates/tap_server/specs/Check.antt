@@ -17,11 +17,11 @@ use Rattle.fare_table.specs.declared.fares.Fares.{Fares}
 use Rattle.fare_table.specs.declared.fault.TableFault.{TableFault}
 use Rattle.fare_table.specs.declared.fault.TableFault.TheVariants.{NotToml}
 use Rattle.tap_server.specs.declared.check.TableReport.{TableReport as Written}
-use Rattle.tap_server.specs.declared.fault.RunFault.{RunFault}
-use Rattle.tap_server.specs.declared.fault.RunFault.TheVariants.{Memory, Read, Write, BadLine}
+use Rattle.line_replay.specs.declared.fault.RunFault.{RunFault}
+use Rattle.line_replay.specs.declared.fault.RunFault.TheVariants.{Memory, Read, Write, BadLine}
 use Rattle.tap_server.specs.declared.fault.CommandFault.{CommandFault}
 use Rattle.tap_server.specs.declared.fault.CommandFault.TheVariants.{File, Table, Run}
-use Rattle.tap_server.specs.declared.hex_line.TheConstants.{LINE_FEED}
+use Rattle.line_replay.specs.declared.hex_line.TheConstants.{LINE_FEED}
 use Rattle.gate_session.specs.Writing.{IsBeginning}
 
 -- what is written for a table, and whether the table is valid

@@ -1,7 +1,7 @@
 -- Why a command isn't done that reads a fare table (docs/OPERATING.md, "Faults"; this project's choice).
 use Rattle.fare_table.specs.declared.fault.TableFault.{TableFault}
 use Rattle.fare_table.specs.declared.fault.TableFault.TheVariants as tables
-use Rattle.tap_server.specs.declared.fault.RunFault.TheVariants as runs
+use Rattle.line_replay.specs.declared.fault.RunFault.TheVariants as runs
 use Rattle.tap_server.specs.declared.fault.CommandFault.{CommandFault}
 use Rattle.tap_server.specs.declared.fault.CommandFault.TheVariants.{Run, Table}
 

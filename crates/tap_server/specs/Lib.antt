@@ -1,13 +1,6 @@
-pub mod Line
-pub mod HexLine
-pub mod Station
-pub mod Replay
-pub mod Progress
-pub mod Run
 pub mod Tally
 pub mod Report
 pub mod Clerk
 pub mod Post
-pub mod Arguments
 pub mod Command
 pub mod Check

@@ -7,10 +7,10 @@ ghost use Rattle.fare_table.specs.Table.{IsTableOf};
 ghost use Rattle.fare_table.specs.declared.fault.TableFault.TheVariants as fault;
 ghost use Rattle.tap_server.specs.Check.{report_of, fault_in, lines_of_table, HasChecked, IsReport, IsTableFault};
 
-use crate::fault::{CommandFault, RunFault};
-use crate::stream::read_all;
+use crate::fault::CommandFault;
 use fare_table::{Fares, TableFault};
 use gate_session::write_text;
+use line_replay::{RunFault, read_all};
 use std::alloc::{AllocError, Global};
 use std::io::{Read, Write};
 use std::str;

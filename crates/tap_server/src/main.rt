@@ -3,31 +3,23 @@
 //! what is read.
 #![tactic(auto)]
 
-ghost use Rattle.tap_server.specs.Arguments.{IsWithin};
+ghost use Rattle.command_line.specs.Arguments.{IsWithin};
 
-mod arguments;
 mod check;
 mod clerk;
-mod commands;
 mod fault;
 mod gate_line;
-mod hex_line;
-mod laws;
-mod line;
 mod post;
-mod replay;
 mod report;
 mod server;
-mod station;
-mod stream;
 mod tally;
 
-use crate::arguments::{Arguments, arguments_of, refuse_bytes};
 use crate::check::{check_table, table_of};
-use crate::fault::{CommandFault, RunFault};
-use crate::replay::replay_text;
+use crate::fault::CommandFault;
 use crate::server::serve_gates;
+use command_line::{Arguments, arguments_of, refuse_bytes};
 use fare_table::{EXAMPLE_TABLE, Fares};
+use line_replay::{RunFault, replay_text};
 use std::fs::File;
 use std::net::{Net, TcpListener, TcpStream};
 use std::process::ExitCode;

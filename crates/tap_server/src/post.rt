@@ -5,7 +5,7 @@ ghost use Rattle.std.specs.Prelude.{◌≡◌, ◌<◌, ◌≤◌, ◌*◌, ◌^
 ghost use Rattle.std.specs.List.{All};
 ghost use Rattle.std.specs.Thread.{IsSync};
 ghost use Rattle.gate_session.specs.Session.{HasCounted};
-ghost use Rattle.tap_server.specs.Arguments.{IsWithin};
+ghost use Rattle.command_line.specs.Arguments.{IsWithin};
 ghost use Rattle.tap_server.specs.Clerk.{GoesOn, DeskGoesOn};
 ghost use Rattle.tap_server.specs.Post.{HasServed};
 ghost use Rattle.tap_server.specs.Tally.{IsBelow};

@@ -4,17 +4,18 @@ ghost use Rattle.std.specs.Prelude.{◌≡◌, ◌≤◌, ◌^◌, length, IfOk}
 ghost use Rattle.std.specs.List.{All};
 ghost use Rattle.tap_office.specs.Name.{IsNameOf};
 ghost use Rattle.tap_office.specs.Opening.{opened_of};
-ghost use Rattle.tap_server.specs.Arguments.{IsServeAllowed, IsWithin};
+ghost use Rattle.command_line.specs.Arguments.{IsServeAllowed, IsWithin};
 ghost use Rattle.tap_server.specs.Tally.{IsBelow};
 
-use crate::arguments::Serve;
-use crate::fault::{CommandFault, RunFault};
+use crate::fault::CommandFault;
 use crate::gate_line::{GateLine, TcpLine};
 use crate::post::{Post, serve_all};
 use crate::report::{end_line, opened_line, tally_line};
 use crate::tally::Tally;
+use command_line::Serve;
 use fare_table::Fares;
 use gate_session::write_text;
+use line_replay::RunFault;
 use std::alloc::{AllocError, Global};
 use std::fs::File;
 use std::io;

@@ -2,8 +2,8 @@
 
 use super::fakes::{Pieces, Taker};
 use crate::check::check_table;
-use crate::fault::RunFault;
 use fare_table::EXAMPLE_TABLE;
+use line_replay::RunFault;
 use std::alloc::Global;
 use std::test::Fail;
 

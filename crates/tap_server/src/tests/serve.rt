@@ -11,6 +11,7 @@ use super::*;
 use crate::post::Post;
 use crate::server::{new_post, serve_posts, take_seats};
 use crate::tally::Tally;
+use std::alloc::AllocError;
 use std::marker::Brand;
 use std::process::Abort;
 use std::sync::Wait;

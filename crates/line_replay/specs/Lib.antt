@@ -1,0 +1,6 @@
+pub mod Line
+pub mod HexLine
+pub mod Station
+pub mod Replay
+pub mod Progress
+pub mod Run

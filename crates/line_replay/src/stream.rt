@@ -1,0 +1,45 @@
+//! Reading a stream piece by piece.
+
+ghost use Rattle.std.specs.Prelude.{◌≡◌, ◌<◌, ◌≤◌, length, take, Ok, IfOk, IfErr};
+ghost use Rattle.std.specs.Io.KnownBytes.{Consumes, IsAtEnd, Keeps};
+ghost use Rattle.line_replay.specs.declared.fault.RunFault.TheVariants.{Read};
+ghost use Rattle.line_replay.specs.Run.{HasLeftUnread};
+
+use crate::fault::RunFault;
+use std::alloc::Global;
+use std::io::Read;
+
+/// The most bytes that one read of request lines gives.
+pub const PIECE_SIZE: usize = 65_536;
+
+/// The most bytes that one read of a whole input gives. By 1000000 reads it is about 1 GB, so an
+/// input that doesn't end is given up before it has taken all memory.
+const BLOCK_SIZE: usize = 1_024;
+
+/// All bytes that a reader gives, by at most so many reads. An `Err` may have read some of them.
+pub fn read_all<R: Read>(alloc: Global, reader: &mut R, turns: u32) -> Result<Vec<u8>, RunFault>
+    ensures ok { IfOk result (λ bytes. Consumes (R.remaining reader.old) (R.remaining reader.new) bytes.items) }
+    ensures end { IfOk result (λ _. IsAtEnd (R.remaining reader.new)) }
+    ensures err { IfErr result (HasLeftUnread (R.remaining reader.old) (R.remaining reader.new)) }
+{
+    let mut bytes = Vec::new(alloc);
+    let mut block = [0; BLOCK_SIZE];
+    for _ in 0..turns {
+        let size = read_piece(reader, &mut block)?;
+        if size == 0 {
+            return Ok(bytes);
+        }
+        bytes.extend_from_slice(&block[..size])?;
+    }
+    Err(RunFault::Read)
+}
+
+/// One read.
+pub(crate) fn read_piece<R: Read>(reader: &mut R, piece: &mut [u8]) -> Result<usize, RunFault>
+    ensures ok { IfOk result (λ size. (size ≤ length piece.new)
+        × Consumes (R.remaining reader.old) (R.remaining reader.new) (take size piece.new)) }
+    ensures end { result ≡ Ok 0 → 0 < length piece.old → IsAtEnd (R.remaining reader.new) }
+    ensures err { IfErr result (λ fault. (fault ≡ Read) × Keeps (R.remaining reader.old) (R.remaining reader.new)) }
+{
+    reader.read(piece).map_err(|_| RunFault::Read)
+}
