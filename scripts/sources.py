@@ -63,6 +63,14 @@ def libraries(top, name):
     return [other for other in sorted(named) if (top / "crates" / other).is_dir()]
 
 
+def below(top, name):
+    """The libraries of the repository that the crate stands on, also by way of another one."""
+    found = libraries(top, name)
+    for other in found:
+        found += [further for further in libraries(top, other) if further not in found]
+    return found
+
+
 def texts(folder, parts, change=str):
     """The texts of these parts of a crate, but for tests, each behind its path."""
     for part in parts:
