@@ -6,3 +6,4 @@ pub mod PowerLemmas
 pub mod RoundLemmas
 pub mod SettlingLemmas
 pub mod Sending
+mod Examples

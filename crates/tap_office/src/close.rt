@@ -2,6 +2,7 @@
 ghost use Rattle.std.specs.Prelude.{◌≡◌, ◌≢◌, ◌↔◌, ◌+◌, ◌-◌, ◌^◌, ◌≤◌, List, length, IfOk, IfErr, IsTrue, MatchResult};
 ghost use Rattle.std.specs.List.{All, sum_by};
 ghost use Rattle.reply_book.specs.Book.{entries_of};
+ghost use Rattle.tap_office.specs.Keeper.{IsHaltedByDisk};
 ghost use Rattle.tap_office.specs.Close.{AreAtPlaces, IsReady, Settles, IsEnd};
 
 use crate::fault::CloseCause;
@@ -50,6 +51,14 @@ impl<N: Named, D: Disk> Keeper<N, D> {
         ensures rest { MatchResult result
             (λ r. IsEnd D.honest D.content D.outcome N.opened r.book r.halted r.disk)
             (λ r. IsEnd D.honest D.content D.outcome N.opened r.book r.halted r.disk) }
+        ensures history { MatchResult result (λ r. entries_of r.book ≡ self.history)
+            (λ r. entries_of r.book ≡ self.history) }
+        ensures disk { MatchResult result (λ r. r.disk ≡ self.disk) (λ r. r.disk ≡ self.disk) }
+        ensures halted { MatchResult result (λ r. r.halted ≡ self.halted)
+            (λ r. r.halted ≡ self.halted) }
+        ensures failed { MatchResult result
+            (λ r. IsHaltedByDisk r.halted (D.failed_calls r.disk))
+            (λ r. IsHaltedByDisk r.halted (D.failed_calls r.disk)) }
         ensures seat_missing { MatchResult result (λ _. length seats.items ≡ N.opened.seats)
             (λ r. (r.cause ≡ CloseCause.SeatMissing) ↔ (length seats.items ≢ N.opened.seats)) }
         ensures mismatch { MatchResult result

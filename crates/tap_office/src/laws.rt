@@ -3,7 +3,7 @@ ghost use Rattle.std.specs.Prelude.{◌≡◌, ℕ, ◌<◌, ◌≤◌, List, le
 ghost use Rattle.oyster_account.specs.Scheme.{Scheme};
 ghost use Rattle.tap_journal.specs.Layout.{Header};
 ghost use Rattle.reply_book.specs.Legal.{history_of, IsLegal};
-ghost use Rattle.tap_office.specs.Keeper.{IsLeft};
+ghost use Rattle.tap_office.specs.Keeper.{IsHaltedByDisk, IsLeft};
 ghost use Rattle.tap_office.specs.Rounds.{Round, AreRounds, IsKeptIn};
 
 use crate::keeper::Keeper;
@@ -21,13 +21,14 @@ pub fn rounds_keep_what_was_released()
 
 /// What holds whenever the lock is free: the history is legal, begins with what was found at the
 /// opening, and is what is published; and the disk has its touches, with one more or without where
-/// the keeper is halted.
+/// the keeper is halted, which it is only where a call of the disk has failed.
 pub fn the_lock_keeps<N: Named, D: Disk>(keeper: &Keeper<N, D>)
     ensures legal { IsLegal N.opened.scheme N.opened.header.cards (history_of keeper.now.history) }
     ensures begins { take (length N.opened.recovered) keeper.now.history ≡ N.opened.recovered }
     ensures published { keeper.now.published ≡ keeper.now.history }
     ensures left { IsLeft D.honest D.content D.outcome N.opened.header keeper.now.history
         keeper.now.halted keeper.now.disk }
+    ensures failed { IsHaltedByDisk keeper.now.halted (D.failed_calls keeper.now.disk) }
 {
     let _book = &keeper.book;
 }

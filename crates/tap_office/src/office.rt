@@ -4,6 +4,7 @@ ghost use Rattle.std.specs.List.{All};
 ghost use Rattle.reply_book.specs.Book.{entries_of};
 ghost use Rattle.tap_desk.specs.Notes.{told_by};
 ghost use Rattle.tap_office.specs.Receipt.{IsNote, Files};
+ghost use Rattle.tap_office.specs.Keeper.{IsHaltedByDisk};
 ghost use Rattle.tap_office.specs.Close.{AreAtPlaces, Settles, IsEnd};
 
 use crate::close::{CloseFault, Closed};
@@ -72,7 +73,8 @@ impl<N: Named, D: Disk> Office<N, D> {
 
     /// Closes the office against its seats' receipts: the history is what was found at the opening
     /// and what the seats filed, and nothing else. No memory is taken, and no disk call is made.
-    /// Desks answer nothing from then on; it waits for those that read.
+    /// Desks answer nothing from then on; it waits for those that read. `halted` comes only where a
+    /// call of the disk has failed.
     ///
     /// `SeatMissing` comes where there are not as many seats as were made, and then `Mismatch`
     /// where a receipt doesn't stand at its place. In each case the book and the disk are handed
@@ -83,6 +85,9 @@ impl<N: Named, D: Disk> Office<N, D> {
         ensures rest { MatchResult result
             (λ r. IsEnd D.honest D.content D.outcome N.opened r.book r.halted r.disk)
             (λ r. IsEnd D.honest D.content D.outcome N.opened r.book r.halted r.disk) }
+        ensures failed { MatchResult result
+            (λ r. IsHaltedByDisk r.halted (D.failed_calls r.disk))
+            (λ r. IsHaltedByDisk r.halted (D.failed_calls r.disk)) }
 
         // Each fault has its cause.
         ensures seat_missing { MatchResult result (λ _. length seats.items ≡ N.opened.seats)

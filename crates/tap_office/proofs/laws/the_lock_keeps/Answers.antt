@@ -1,6 +1,6 @@
 use Rattle.std.proofs.Common.{◌≡◌, subst}
 use Rattle.reply_book.specs.Legal.{history_of, IsLegal}
-use Rattle.tap_office.specs.Keeper.{KeeperState, IsLeft}
+use Rattle.tap_office.specs.Keeper.{KeeperState, IsHaltedByDisk, IsLeft}
 use Rattle.tap_office.proofs.KeeperLemmas.{legal_of, is_left}
 use Rattle.tap_office.proofs.laws.the_lock_keeps.Goals as goal
 
@@ -23,3 +23,8 @@ returns-clause-left g c =
     k.history k.halted k.disk) c.keeper.view_is
     (is_left o inside.fares inside.book inside.halted inside.journal c.keeper.invariant.0
     g.met.D.Disk.content_is_outcome)
+
+pub returns-clause-failed : goal.returns-clause-failed
+returns-clause-failed g c =
+    subst (λ (k : KeeperState g.row.D.Denot). IsHaltedByDisk k.halted (g.D.Disk.failed_calls k.disk)) c.keeper.view_is
+    c.keeper.invariant.0.failed

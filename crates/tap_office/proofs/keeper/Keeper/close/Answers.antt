@@ -2,6 +2,7 @@ use Rattle.std.proofs.Common.{arith, ◌≡◌, ◌+◌, ◌-◌, ◌^◌, lengt
 use Rattle.std.specs.List.{All, sum_by}
 use Rattle.reply_book.specs.Book.{entries_of}
 use Rattle.tap_office.specs.Seat.{SeatState}
+use Rattle.tap_office.specs.Keeper.{IsHaltedByDisk}
 use Rattle.tap_office.specs.Close.{AreAtPlaces, IsReady}
 use Rattle.tap_office.proofs.SettlingLemmas.{settled}
 use Rattle.tap_office.proofs.KeeperLemmas.{is_end}
@@ -68,3 +69,19 @@ returns-then-not-all_stand-clause-mismatch g c =
       ),
       λ _. refl,
     )
+
+-- a keeper that is halted was halted by its disk
+pub returns-clause-failed : goal.returns-clause-failed
+returns-clause-failed g c =
+    subst (λ d. IsHaltedByDisk c.self.inside.halted (g.D.Disk.failed_calls d)) (sym c.close-disk.ensures)
+    c.self.invariant.0.failed
+
+pub returns-then-len-made-clause-failed : goal.returns-then-len-made-clause-failed
+returns-then-len-made-clause-failed g c =
+    subst (λ d. IsHaltedByDisk c.self.inside.halted (g.D.Disk.failed_calls d)) (sym c.close-disk.ensures)
+    c.self.invariant.0.failed
+
+pub returns-then-not-all_stand-clause-failed : goal.returns-then-not-all_stand-clause-failed
+returns-then-not-all_stand-clause-failed g c =
+    subst (λ d. IsHaltedByDisk c.self.inside.halted (g.D.Disk.failed_calls d)) (sym c.close-disk.ensures)
+    c.self.invariant.0.failed
