@@ -148,3 +148,7 @@ interchange_of c a b = option_map (λ interchange. interchange.minutes)
 -- the stamp of a moment, by the table's zone and holidays
 abbrev pub stamp_of : Content → ℕ → Stamp
 stamp_of c moment = zone_stamp c.zone c.holidays moment
+
+-- the stamp of a moment, by one table's zone and another's holidays
+abbrev pub stamp_with : Content → Content → ℕ → Stamp
+stamp_with c other moment = zone_stamp c.zone other.holidays moment

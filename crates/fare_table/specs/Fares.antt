@@ -1,5 +1,5 @@
 -- What contracts see of a fare table that was read.
-use Rattle.std.specs.Prelude.{ℕ, List}
+use Rattle.std.specs.Prelude.{ℕ, List, string_bytes}
 use Rattle.money_time.specs.Zone.{rule_of}
 use Rattle.fare_table.specs.Fare.{Content}
 use Rattle.fare_table.specs.declared.fares.Fares.{Fares}
@@ -20,3 +20,7 @@ content_of fares = record {
 -- the digest of the table's text
 abbrev pub digest_of : Fares → List ℕ
 digest_of fares = fares.digest
+
+-- the text of the table's zone
+abbrev pub zone_text_of : Fares → List ℕ
+zone_text_of fares = string_bytes fares.zone_text

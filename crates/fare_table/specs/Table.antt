@@ -8,7 +8,7 @@ use Rattle.fare_table.specs.Tree.{value_at, rows_at, text_in}
 use Rattle.fare_table.specs.Content.{rates_of, stations_of, singles_of, pairs_of, caps_of, interchanges_of}
 use Rattle.fare_table.specs.Dates.{dates_of}
 use Rattle.fare_table.specs.Fare.{Content}
-use Rattle.fare_table.specs.Fares.{content_of, digest_of}
+use Rattle.fare_table.specs.Fares.{content_of, digest_of, zone_text_of}
 use Rattle.fare_table.specs.declared.key.Key.TheVariants as key
 use Rattle.fare_table.specs.declared.fares.Fares.{Fares}
 
@@ -23,9 +23,10 @@ pub record IsContentOf (ms : Members) (content : Content) : Type 0 where
   pub caps : content.caps ≡ caps_of (rows_at key.Cap ms)
   pub interchanges : content.interchanges ≡ interchanges_of (rows_at key.Interchange ms)
 
--- the table has the content of its text's tree, and the digest of its text
+-- the table has the content and the zone's text of its text's tree, and the digest of its text
 pub record IsTableOf (text : List ℕ) (fares : Fares) : Type 0 where
   pub tree : Members
   pub parsed : parse_document text ≡ Some tree
   pub content : IsContentOf tree (content_of fares)
+  pub zone_text : zone_text_of fares ≡ text_in (value_at key.Zone tree)
   pub digest : digest_of fares ≡ sha256 text

@@ -1,13 +1,16 @@
 //! The tree of a table's text, in which each key holds what it must.
 ghost use Rattle.std.specs.Prelude.{◌≡◌, ◌≢◌, None, Some, IfOk, IfErr, if◌then◌else◌};
+ghost use Rattle.std.specs.Prelude.{string_bytes};
 ghost use Rattle.toml.specs.Parse.{parse_document};
 ghost use Rattle.toml.specs.View.{table_view};
 ghost use Rattle.fare_table.specs.First.{first};
 ghost use Rattle.fare_table.specs.Faults.{key_faults, first_fault};
+ghost use Rattle.fare_table.specs.Tree.{text_in, value_at};
 
-use crate::checks;
 use crate::fault::TableFault;
-use std::alloc::Global;
+use crate::key::Key;
+use crate::{checks, tree};
+use std::alloc::{AllocError, Global};
 use toml::Table;
 
 /// The tree of a text. `NotToml` comes where it is no TOML document, and else the first fault of a
@@ -23,6 +26,14 @@ pub fn read(alloc: Global, text: &str) -> Result<Table, TableFault>
         Some(fault) => Err(fault),
         None => Ok(tree),
     }
+}
+
+/// The text of a tree's zone, which is copied.
+pub fn zone_text(alloc: Global, tree: &Table) -> Result<String, AllocError>
+    ensures { IfOk result (λ text. string_bytes text
+        ≡ text_in (value_at Key.Zone (table_view tree.now))) }
+{
+    String::from_str(alloc, tree::text_at(tree, Key::Zone))
 }
 
 /// The tree of a text, before its keys are looked at.

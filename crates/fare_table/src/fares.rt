@@ -24,6 +24,7 @@ use std::alloc::{AllocError, Global};
 #[derive(Drop)]
 pub struct Fares {
     clock: Zone,
+    zone_text: String,
     rates: Rates,
     holidays: Vec<i32>,
     lists: Lists,
@@ -34,9 +35,11 @@ pub struct Fares {
 }
 
 impl Fares {
-    ghost use Rattle.fare_table.specs.Fares.{content_of, digest_of};
+    ghost use Rattle.fare_table.specs.Fares.{content_of, digest_of, zone_text_of};
+    ghost use Rattle.fare_table.specs.Stations.{has_stations_of};
     ghost use Rattle.fare_table.specs.Table.{IsTableOf};
-    ghost use Rattle.fare_table.specs.Fare.{station_at, zones_at, fare_of, maximum_of, leg_minutes_of, interchange_of, stamp_of};
+    ghost use Rattle.fare_table.specs.Fare.{station_at, zones_at, fare_of, maximum_of, leg_minutes_of, interchange_of};
+    ghost use Rattle.fare_table.specs.Fare.{stamp_of, stamp_with};
 
     /// Reads a table's text, as docs/TABLE.md says.
     ///
@@ -59,8 +62,10 @@ impl Fares {
         let zone = times::zone_of(tree::text_at(&tree, Key::Zone))?;
         let holidays = times::days_of(alloc, tree::rows_at(&tree, Key::Holidays))?;
         let digest = Sha256::digest(text.as_bytes());
+        let zone_text = document::zone_text(alloc, &tree)?;
         Ok(Fares {
             clock: zone,
+            zone_text,
             rates,
             holidays,
             lists,
@@ -190,6 +195,20 @@ impl Fares {
         self.lists.singles.as_slice().len()
     }
 
+    /// The text of the table's zone, as it stands in the table.
+    pub fn zone_text(&self) -> &str
+        ensures { result.now ≡ zone_text_of self.now }
+    {
+        self.zone_text.as_str()
+    }
+
+    /// Whether each station of the other table is a station of this one, by its number.
+    pub fn has_stations_of(&self, other: &Fares) -> bool
+        ensures { result ≡ has_stations_of (content_of self.now) (content_of other.now) }
+    {
+        self.lists.stations.has_all(&other.lists.stations)
+    }
+
     /// The SHA-256 digest of the table's text.
     pub fn digest(&self) -> [u8; 32]
         ensures { result ≡ digest_of self.now }
@@ -201,7 +220,15 @@ impl Fares {
     pub fn stamp(&self, moment: u32) -> Result<Stamp, AllocError>
         ensures { result ≡ Ok (stamp_of (content_of self.now) moment) }
     {
-        match self.clock.stamp(moment, self.holidays.as_slice()) {
+        self.stamp_with(self, moment)
+    }
+
+    /// The stamp of a moment, by this table's zone and the other's holidays. It never fails: it
+    /// takes no memory.
+    pub fn stamp_with(&self, other: &Fares, moment: u32) -> Result<Stamp, AllocError>
+        ensures { result ≡ Ok (stamp_with (content_of self.now) (content_of other.now) moment) }
+    {
+        match self.clock.stamp(moment, other.holidays.as_slice()) {
             Ok(stamp) => Ok(stamp),
             Err(_) => Err(AllocError),
         }

@@ -1,6 +1,6 @@
 //! The stations of a table, by number.
 ghost use Rattle.std.specs.Prelude.{◌≡◌, ◌≢◌, ◌==◌, ◌++◌, List, [], map, length, option_copied, option_map, Some, None, IfOk, IfErr};
-ghost use Rattle.std.specs.List.{find, list_any};
+ghost use Rattle.std.specs.List.{find, list_any, list_all};
 ghost use Rattle.toml.specs.View.{view};
 ghost use Rattle.indexmap.specs.IndexMap.{values};
 ghost use Rattle.fare_table.specs.declared.station.Station.{Station};
@@ -69,6 +69,13 @@ impl Stations {
         ensures { result ≡ is_known self.now id }
     {
         self.rows.contains_key(&id)
+    }
+
+    /// Whether each of the other stations is one of these, by its number.
+    pub fn has_all(&self, other: &Stations) -> bool
+        ensures { result ≡ list_all (λ station. is_known self.now station.id) other.now }
+    {
+        other.rows.values().all(|station| self.has(station.id))
     }
 
     /// Whether some station is in this zone.

@@ -1,5 +1,6 @@
 //! Tables with values worked out by hand, and each fault with its printed line.
 mod causes;
+mod compared;
 mod counts;
 mod ends;
 mod fares;

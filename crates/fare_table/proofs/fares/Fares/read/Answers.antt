@@ -1,4 +1,4 @@
-use Rattle.std.proofs.Common.{sym, ◌∙◌, ap}
+use Rattle.std.proofs.Common.{sym, ◌∙◌, ap, refl}
 use Rattle.std.proofs.lemmas.Result.{err_from_is_err_and}
 use Rattle.sha2.specs.Sha256.{sha256}
 use Rattle.toml.specs.View.{table_view}
@@ -44,6 +44,11 @@ returns-in_err-holidays-clause-fault c =
     (ap first (sym same) ∙ sym c.in_default.ensures) (rw c.text_at.ensures at c.in_ok-zone.ensures.no_fault)
     (rw c.rows_at.ensures at (c.in_err-holidays.ensures.fault other)))
 
+pub returns-in_err-zone_text-clause-fault : goal.returns-in_err-zone_text-clause-fault
+returns-in_err-zone_text-clause-fault c =
+    let p = err_from_is_err_and c.from_residual-in_err-zone_text.result c.from_residual-in_err-zone_text.ensures.1 in
+    rw (p.1, p.2) (λ other. absurd (other refl))
+
 pub invariant_of-result-clause-within_limits : goal.invariant_of-result-clause-within_limits
 invariant_of-result-clause-within_limits c =
     lists-limits (table_view c.in_ok-tree.tree) c.in_ok-lists.lists c.of-rates.result
@@ -82,5 +87,6 @@ returns-clause-ok c = record {
     caps = c.in_ok-lists.ensures.ok.caps;
     interchanges = c.in_ok-lists.ensures.ok.interchanges;
   };
+  zone_text = c.in_ok-zone_text.ensures;
   digest = c.digest-digest.ensures ∙ ap sha256 c.as_bytes.ensures.value;
 }
