@@ -1,5 +1,5 @@
 -- Which command lines are allowed (docs/OPERATING.md; this project's choice).
-use Rattle.std.specs.Prelude.{◌≤◌, ℕ}
+use Rattle.std.specs.Prelude.{◌≤◌, ℕ, IfSome}
 use Rattle.command_line.specs.declared.arguments.Arguments.{Arguments}
 use Rattle.command_line.specs.declared.arguments.Arguments.TheVariants as asked
 use Rattle.command_line.specs.declared.arguments.Serve.{Serve}
@@ -9,12 +9,14 @@ abbrev pub IsWithin : ℕ → ℕ → Type 0
 IsWithin limit number = (1 ≤ number) × (number ≤ limit)
 
 -- a station has 1 to 100,000 cards and a journal of 1 to 1,000,000 touches, and a server 1 to 64 lines
--- of 1 to 1,000,000 connections each
+-- of 1 to 1,000,000 connections each; a silent gate is given up, if at all, after 1 to 1,000,000
+-- seconds
 pub record IsServeAllowed (serve : Serve) : Type 0 where
   pub cards : IsWithin 100_000 serve.cards
   pub capacity : IsWithin 1_000_000 serve.capacity
   pub lines : IsWithin 64 serve.lines
   pub connections : IsWithin 1_000_000 serve.connections
+  pub idle : IfSome serve.idle (IsWithin 1_000_000)
 
 -- so it is of each command
 abbrev pub IsAllowed : Arguments → Type 0

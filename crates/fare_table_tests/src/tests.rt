@@ -8,6 +8,7 @@ mod forms;
 mod limits;
 mod links;
 mod lists;
+mod refused;
 mod texts;
 
 use fare_table::Fares;

@@ -1,6 +1,7 @@
 mod fakes;
 mod journeys;
 mod rows;
+mod stream;
 
 use crate::{RunFault, replay_text};
 use fakes::{Pieces, Taker};

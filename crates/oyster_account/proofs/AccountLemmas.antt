@@ -28,8 +28,10 @@ use Rattle.oyster_account.specs.Journey.{continues}
 use Rattle.oyster_account.specs.Charge.{travel_charge}
 use Rattle.oyster_account.specs.Balance.{pence_paid, balance, is_issued, state_of, view}
 use Rattle.oyster_account.specs.Verdict.{acceptance_code}
+use Rattle.oyster_account.specs.History.{is_accepted}
+use Rattle.oyster_account.specs.declared.account.Judgement.{Judgement}
 use Rattle.oyster_account.specs.Refusal.{is_backwards, refusal_by, terms_for, refusal}
-use Rattle.oyster_account.specs.Judge.{entry_acceptance, exit_acceptance, acceptance, refused, granted, reply_by, judge}
+use Rattle.oyster_account.specs.Judge.{entry_acceptance, exit_acceptance, acceptance, refused, granted, reply_by, judge, ChangesNothing}
 use Rattle.oyster_account.specs.Priced.{IsPriced}
 use Rattle.oyster_account.specs.Account.{IsAccountOf, IsSound, acts_after, IsJudgementOf}
 use Rattle.oyster_account.proofs.TravelLemmas.{refund, charge-most, charge-least}
@@ -222,3 +224,41 @@ module _ (scheme : Scheme) (priced : IsPriced scheme) where
   pub judge-refund : (acts : List Act) (act : Act) → (judge scheme acts act).verdict ≡ 4 →
       pos 0 ≤ℤ (judge scheme acts act).change
   judge-refund acts act is = reply-refund acts act _ is
+
+-- an accepted act has a code below the refusals
+granted-accepted : (a : Acceptance) (old new : ℤ) → is_accepted (granted a old new) ≡ true
+granted-accepted Entered old new = refl
+granted-accepted EnteredContinued old new = refl
+granted-accepted EnteredOverOpen old new = refl
+granted-accepted Exited old new = refl
+granted-accepted ExitedUnstarted old new = refl
+granted-accepted ExitedLate old new = refl
+granted-accepted ToppedUp old new = refl
+granted-accepted Issued old new = refl
+
+module _ (scheme : Scheme) (acts : List Act) (act : Act) where
+  reply-refused : (found : Option Refusal) → is_accepted (reply_by scheme acts act found) ≡ false →
+      ((reply_by scheme acts act found).change ≡ pos 0)
+      × ((reply_by scheme acts act found).balance ≡ (view scheme acts).balance)
+  reply-refused (Some r) is = (refl, refl)
+  reply-refused None is =
+      let accepted : is_accepted (reply_by scheme acts act None) ≡ true =
+      granted-accepted (acceptance scheme (travel scheme acts) act) (balance scheme acts)
+      (balance scheme (act ∷ acts)) in
+      absurd (cc)
+
+  -- a refused act is answered with the change 0 and the balance that was seen
+  pub judge-refused : is_accepted (judge scheme acts act) ≡ false →
+      ((judge scheme acts act).change ≡ pos 0) × ((judge scheme acts act).balance ≡ (view scheme acts).balance)
+  judge-refused is = reply-refused _ is
+
+  -- and leaves what is seen
+  pub judgement-nothing : (j : Judgement) → IsJudgementOf scheme acts act j → is_accepted j.reply ≡ false →
+      ChangesNothing (view scheme acts) j.view j.reply
+  judgement-nothing j is refused_is =
+      let of_judge = judge-refused (ap is_accepted (sym is.reply) ∙ refused_is) in
+      record {
+        change = ap (λ (r : Reply). r.change) is.reply ∙ of_judge.0;
+        balance = ap (λ (r : Reply). r.balance) is.reply ∙ of_judge.1;
+        seen = is.view ∙ ap (λ x. view scheme (cond x (act ∷ acts) acts)) refused_is;
+      }

@@ -10,8 +10,10 @@ use Rattle.oyster_account.specs.Classes.{IsInOneClass, missing_charges, IsIncomp
 use Rattle.oyster_account.specs.Charge.{entry_charge, exit_charge, incomplete_charge}
 use Rattle.oyster_account.specs.Scheme.{Scheme}
 use Rattle.oyster_account.specs.History.{is_accepted, counts_for, accepted_acts}
-use Rattle.oyster_account.specs.Laws.{NeverGoesBack, AreOthersNothing}
+use Rattle.oyster_account.specs.Laws.{NeverGoesBack, AreOthersNothing, AreTablesPriced, DoLegsTakeNothing, judged_next, DoRefusalsChangeNothing}
+use Rattle.oyster_account.proofs.AccountLemmas.{fares-priced, judge-refund}
 use Rattle.oyster_account.proofs.HistoryLemmas.{judged-in_order}
+use Rattle.oyster_account.proofs.StandingLemmas.{refused-nothing}
 
 begins : (in_time : Bool) → count_by (λ class. class) (in_time ∷ false ∷ not in_time ∷ false ∷ false ∷ []) ≡ 1
 begins true = refl
@@ -85,3 +87,13 @@ module _ (scheme : Scheme) where
 
 pub incomplete-missing : IsIncompleteMissing
 incomplete-missing scheme taps = sym (missing-are scheme None taps tt)
+
+pub tables-priced : AreTablesPriced
+tables-priced fares = fares-priced fares
+
+pub legs-take_nothing : DoLegsTakeNothing
+legs-take_nothing scheme acts act priced is = judge-refund scheme priced acts act is
+
+pub refusals-change_nothing : DoRefusalsChangeNothing
+refusals-change_nothing scheme history touch refused =
+    refused-nothing scheme touch.card history (judged_next scheme history touch) refl refl refused

@@ -1,17 +1,32 @@
 -- What a card stands for before and after a touch.
-use Rattle.std.proofs.Common.{◌≡◌, ℕ, ◌+◌, List, [], ◌∷◌, ◌++◌, reverse, length, sym, ap, ◌∙◌, subst, arith, length-append}
+use Rattle.std.proofs.Common.{◌≡◌, ℕ, ◌+◌, false, List, [], ◌∷◌, ◌++◌, reverse, length, refl, sym, ap, ◌∙◌, subst, arith, length-append}
 use Rattle.oyster_account.specs.declared.touch.Act.{Act}
 use Rattle.oyster_account.specs.declared.reply.Judged.{Judged}
+use Rattle.oyster_account.specs.declared.reply.CardView.{CardView}
 use Rattle.oyster_account.specs.declared.account.Judgement.{Judgement}
 use Rattle.oyster_account.specs.declared.card.Card.{Card}
 use Rattle.oyster_account.specs.Scheme.{Scheme}
 use Rattle.oyster_account.specs.Travel.{travel}
-use Rattle.oyster_account.specs.History.{accepted}
+use Rattle.oyster_account.specs.History.{accepted, is_accepted}
 use Rattle.oyster_account.specs.Balance.{view}
+use Rattle.oyster_account.specs.Judge.{judge, ChangesNothing}
 use Rattle.oyster_account.specs.Order.{IsInOrder}
 use Rattle.oyster_account.specs.Account.{IsAccountOf, IsAccountSafe, IsJudgementOf, acts_after}
 use Rattle.oyster_account.specs.Standing.{StandsFor}
+use Rattle.oyster_account.proofs.AccountLemmas.{judgement-nothing}
 use Rattle.oyster_account.proofs.HistoryLemmas.{judged-in_order, judged-append, accepted-append}
+
+-- a refused touch changes nothing of its card
+pub refused-nothing : (scheme : Scheme) (number : ℕ) (history : List Judged) (j : Judged) → j.touch.card ≡ number →
+    j.reply ≡ judge scheme (accepted number history) j.touch.act → is_accepted j.reply ≡ false →
+    ChangesNothing (view scheme (accepted number history)) (view scheme (accepted number (history ++ j ∷ []))) j.reply
+refused-nothing scheme number history j own is refused =
+    let acts : List Act = accepted number history in
+    let seen : CardView = view scheme (acts_after acts j.touch.act j.reply) in
+    subst (λ (v : CardView). ChangesNothing (view scheme acts) v j.reply)
+    (ap (view scheme) (sym (accepted-append number history j own)))
+    (judgement-nothing scheme acts j.touch.act (record { reply = j.reply; view = seen })
+    (record { reply = is; view = refl }) refused)
 
 module _ (scheme : Scheme) (number : ℕ) (history : List Judged) (card : Card)
     (stands : StandsFor scheme number history card) where

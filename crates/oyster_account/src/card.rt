@@ -38,7 +38,7 @@ impl Card {
     ghost use Rattle.oyster_account.specs.Scheme.{Scheme, scheme_of};
     ghost use Rattle.oyster_account.specs.History.{accepted, is_accepted};
     ghost use Rattle.oyster_account.specs.Balance.{view};
-    ghost use Rattle.oyster_account.specs.Judge.{judge};
+    ghost use Rattle.oyster_account.specs.Judge.{judge, ChangesNothing};
     ghost use Rattle.oyster_account.specs.Touch.{moment_of};
     ghost use Rattle.oyster_account.specs.Verdict.{acceptance_code};
     ghost use Rattle.oyster_account.specs.declared.verdict.Acceptance.TheVariants.{Exited};
@@ -104,11 +104,12 @@ impl Card {
             (accepted touch.now.card
             (history ++ record { touch = touch.now; reply = result.0 } ∷ [])) }
 
-        // A refused touch leaves what is seen of the card.
+        // A refused touch changes nothing.
         ensures refused { (history : List Judged)
             → StandsFor (scheme_of fares.now) touch.now.card history self.now
             → is_accepted result.0 ≡ false
-            → result.1 ≡ view (scheme_of fares.now) (accepted touch.now.card history) }
+            → ChangesNothing (view (scheme_of fares.now) (accepted touch.now.card history))
+            result.1 result.0 }
 
         // A touch out that ends a leg takes nothing from the card.
         ensures refund { result.0.verdict ≡ acceptance_code Exited → pos 0 ≤ℤ result.0.change }
@@ -136,6 +137,17 @@ impl Card {
             → StandsFor (scheme_of fares.now) touch.now.card history self.old
             → StandsFor (scheme_of fares.now) touch.now.card
             (history ++ record { touch = touch.now; reply = result } ∷ []) self.new }
+
+        // A refused touch changes nothing.
+        ensures refused { (history : List Judged)
+            → StandsFor (scheme_of fares.now) touch.now.card history self.old
+            → is_accepted result ≡ false
+            → ChangesNothing (view (scheme_of fares.now) (accepted touch.now.card history))
+            (view (scheme_of fares.now) (accepted touch.now.card
+            (history ++ record { touch = touch.now; reply = result } ∷ []))) result }
+
+        // A touch out that ends a leg takes nothing from the card.
+        ensures refund { result.verdict ≡ acceptance_code Exited → pos 0 ≤ℤ result.change }
     {
         let Judgement { reply, view } = self.account.judge(fares, touch.act, stamp);
         self.account.take(fares, touch.act, stamp, &reply);

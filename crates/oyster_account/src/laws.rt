@@ -3,6 +3,8 @@
 ghost use Rattle.oyster_account.specs.Classes.{IsInOneClass, IsIncompleteMissing};
 ghost use Rattle.oyster_account.specs.Rows.{AreJourneysRows};
 ghost use Rattle.oyster_account.specs.Laws.{NeverGoesBack, AreOthersNothing};
+ghost use Rattle.oyster_account.specs.Laws.{AreTablesPriced, DoLegsTakeNothing};
+ghost use Rattle.oyster_account.specs.Laws.{DoRefusalsChangeNothing};
 
 /// Each touch in or out begins a leg, ends one, or misses its other end: as an unfinished touch in,
 /// a late touch out or an unstarted one. It is in exactly one of these classes.
@@ -30,4 +32,22 @@ pub fn never_back()
 /// Another card's touches change nothing of a card.
 pub fn others_nothing()
     ensures { AreOthersNothing }
+{}
+
+/// No fare of a fare table is above the maximum of its window, and no maximum is above the highest
+/// price.
+pub fn tables_are_priced()
+    ensures { AreTablesPriced }
+{}
+
+/// Where prices keep to that, a touch out that ends a leg takes nothing from its card, whatever the
+/// card's accepted acts are.
+pub fn legs_take_nothing()
+    ensures { DoLegsTakeNothing }
+{}
+
+/// A refused touch changes nothing of its card: its change is 0, its balance is the one that was
+/// seen, and what is seen stays.
+pub fn refusals_change_nothing()
+    ensures { DoRefusalsChangeNothing }
 {}

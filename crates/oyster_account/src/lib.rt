@@ -17,7 +17,10 @@ mod verdict;
 
 pub use card::{Card, HISTORY_LIMIT};
 pub use journey::Journey;
-pub use laws::{incomplete_is_missing, journeys_are_rows, never_back, one_class, others_nothing};
+pub use laws::{
+    incomplete_is_missing, journeys_are_rows, legs_take_nothing, never_back, one_class,
+    others_nothing, refusals_change_nothing, tables_are_priced,
+};
 pub use refusal::TOP_UP_LIMIT;
 pub use reply::{CardState, CardView, Judged, Reply};
 pub use touch::{Act, KIND_ENTER, KIND_ISSUE, KIND_LEAVE, KIND_TOP_UP, Touch};

@@ -12,7 +12,9 @@ mod replay;
 pub use book::{Book, CARD_LIMIT};
 pub use entry::{Entry, Found};
 pub use fault::ReplayFault;
-pub use laws::{books_grow, finds_exactly, first_for_ever, one_book};
+pub use laws::{
+    books_grow, finds_exactly, first_for_ever, legs_take_nothing, one_book, refusals_change_nothing,
+};
 
 #[cfg(test)]
 mod tests;

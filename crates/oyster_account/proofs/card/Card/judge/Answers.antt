@@ -1,10 +1,8 @@
-use Rattle.std.proofs.Common.{◌≡◌, pos, ◌≤ℤ◌, sym, ap, ◌∙◌, subst, refl}
+use Rattle.std.proofs.Common.{◌≡◌, pos, ◌≤ℤ◌, sym, subst, refl}
 use Rattle.oyster_account.specs.declared.reply.Reply.{Reply}
 use Rattle.oyster_account.specs.Scheme.{scheme_of}
 use Rattle.oyster_account.specs.History.{accepted}
-use Rattle.oyster_account.specs.Balance.{view}
-use Rattle.std.specs.Prelude.{◌∷◌, if◌then◌else◌}
-use Rattle.oyster_account.proofs.AccountLemmas.{fares-priced, judge-refund}
+use Rattle.oyster_account.proofs.AccountLemmas.{fares-priced, judge-refund, judgement-nothing}
 use Rattle.oyster_account.proofs.StandingLemmas.{stands-in_order, view-after}
 use Rattle.oyster_account.proofs.card.Card.judge.Goals as goal
 
@@ -27,10 +25,9 @@ returns-clause-view c history stands =
 -- A refused touch leaves the accepted acts.
 pub returns-clause-refused : goal.returns-clause-refused
 returns-clause-refused c history stands refused =
-    (c.judge-judgement.ensures.of _ (stands-in_order _ _ _ _ stands) stands.account).view
-    ∙ ap (λ b. view (scheme_of c.args.fares.now)
-    (if b then c.args.touch.now.act ∷ accepted c.args.touch.now.card history else accepted c.args.touch.now.card
-    history)) refused
+    judgement-nothing (scheme_of c.args.fares.now) (accepted c.args.touch.now.card history) c.args.touch.now.act
+    c.judge-judgement.result
+    (c.judge-judgement.ensures.of _ (stands-in_order _ _ _ _ stands) stands.account) refused
 
 -- A touch out that ends a leg takes nothing from the card.
 pub returns-clause-refund : goal.returns-clause-refund
