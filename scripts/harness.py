@@ -7,11 +7,12 @@ import sys
 import tempfile
 import unittest
 
+import wire
+
 TOP = pathlib.Path(__file__).resolve().parent.parent
 CRATES = TOP / "crates"
 PROGRAM = CRATES / "tap_server" / "out" / "tap_server"
 EXAMPLE = TOP / "docs" / "example.toml"
-VECTORS = TOP / "docs" / "vectors.txt"
 
 # How many seconds a run of the program may take.
 TIME = 60
@@ -60,16 +61,12 @@ def lines(texts):
 
 
 def vectors():
-    """The frames of docs/vectors.txt: pairs of a request and its answer, by the section that they stand in."""
-    sections, asked = {}, None
-    for line in VECTORS.read_text().split("\n"):
-        mark, _, rest = line.strip().partition(" ")
-        if mark.startswith("["):
-            pairs = sections.setdefault(line.strip().strip("[]"), [])
-        elif mark == ">":
-            asked = rest.strip()
-        elif mark == "<":
-            pairs.append((asked, rest.strip()))
+    """The frames of the first server of docs/vectors.txt: pairs of a request and its answer, by the section that they
+    stand in."""
+    station = wire.vectors()[0]
+    sections = {name: [] for name in station.sections}
+    for vector in station.vectors:
+        sections[vector.section].append((vector.request.hex(), vector.answer.hex()))
     return sections
 
 

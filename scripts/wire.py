@@ -1,0 +1,290 @@
+"""What the scripts for makers of gates share: frames in words, connections, files of requests and of vectors.
+
+A new kind of frame is an addition: a request's form goes into FORMS of scripts/model.py, an answer's length into
+ANSWERS, and a new code's words into VERDICTS or FAULTS.
+"""
+import argparse
+import collections
+import pathlib
+import socket
+import struct
+
+import model
+
+VECTORS = pathlib.Path(__file__).resolve().parent.parent / "docs" / "vectors.txt"
+
+# How many bytes the body of each kind has.
+REQUESTS = {kind: struct.calcsize(form) for kind, form in model.FORMS.items()}
+ANSWERS = {model.REPLY: 20, model.HOLDING: 14, model.FAULT: 8}
+
+VERDICTS = {
+    1: "in",
+    2: "in, the journey goes on",
+    3: "in, the last touch in was left open",
+    4: "out",
+    5: "out without a touch in",
+    6: "out too late",
+    7: "topped up",
+    8: "issued",
+    20: "refused: no such card",
+    21: "refused: issued already",
+    22: "refused: no such station",
+    23: "refused: earlier than the card's last touch",
+    24: "refused: the balance is too low",
+    25: "refused: no such amount",
+    26: "refused: above the balance limit",
+}
+# A touch in or out opens the barrier by these verdicts, and by those below 20 that have no meaning yet.
+OPENING = (1, 2, 3, 4, 5, 6)
+STATES = {0: "vacant", 1: "outside", 2: "inside"}
+FAULTS = {
+    1: "bad frame, the session ends",
+    2: "conflict: the number stands for another touch",
+    3: "halted: the station's disk has failed",
+    4: "no memory, send it again",
+    5: "full: the journal takes no new touch",
+}
+
+
+class Wrong(Exception):
+    """What was given or answered can't be right. The text says what, and where."""
+
+
+def number_at(frame, start, size, signed=False):
+    """The number at a place of a frame, big-endian."""
+    return int.from_bytes(frame[start : start + size], "big", signed=signed)
+
+
+def is_touch(frame):
+    """Whether a request's frame begins as a touch does: it has a gate and a number, as each but an enquiry."""
+    return len(frame) > 2 and frame[2] in REQUESTS and frame[2] != model.ENQUIRE
+
+
+def is_request(frame):
+    """Whether these bytes are exactly one request's frame."""
+    return len(frame) > 2 and REQUESTS.get(frame[2]) == number_at(frame, 0, 2) == len(frame) - 2
+
+
+def is_fault(answer, *codes):
+    """Whether an answer is a fault of one of these codes, or any fault where none is named."""
+    return answer[2] == model.FAULT and (not codes or answer[3] in codes)
+
+
+def name_of(frame):
+    """The six bytes of gate and number, of a touch or of the answer to one."""
+    start = 4 if frame[2] == model.FAULT else 3
+    return frame[start : start + 6]
+
+
+def gate_and_number(name):
+    return f"gate {number_at(name, 0, 2)} number {number_at(name, 2, 4)}"
+
+
+def opens(request, answer):
+    """Whether a gate opens its barrier by this answer to this request."""
+    if request[2:3] not in (bytes([model.ENTER]), bytes([model.LEAVE])) or answer[2] != model.REPLY:
+        return False
+    if name_of(answer) != request[3:9]:
+        return False
+    return answer[9] in OPENING or answer[9] < 20 and answer[9] not in VERDICTS
+
+
+def in_words(request, answer):
+    """What the answer to a request says."""
+    if answer[2] == model.REPLY:
+        verdict, change = answer[9], number_at(answer, 10, 4, signed=True)
+        told = VERDICTS.get(verdict, f"verdict {verdict}")
+        return f"{told}; change {change}, balance {number_at(answer, 14, 8, signed=True)}"
+    if answer[2] == model.HOLDING:
+        card = f"card {number_at(request, 3, 4)} " if request[2] == model.ENQUIRE else ""
+        state = STATES.get(answer[3], f"state {answer[3]}")
+        balance, front = number_at(answer, 4, 8, signed=True), number_at(answer, 12, 4)
+        return f"{card}{state}; balance {balance}, after {front} touches"
+    return f"fault {answer[3]}: {FAULTS.get(answer[3], 'unknown')}"
+
+
+def address(text):
+    """Host and port of an address on the command line."""
+    host, _, port = text.rpartition(":")
+    if not host or not port.isdecimal() or int(port) > 65535:
+        raise argparse.ArgumentTypeError(f"'{text}' is no address: name a host and a port, as 127.0.0.1:4014")
+    return host.strip("[]"), int(port)
+
+
+def listener(where):
+    """A socket that listens at an address, with the address that it really has."""
+    try:
+        made = socket.create_server(where, family=socket.AF_INET6 if ":" in where[0] else socket.AF_INET, backlog=128)
+    except OSError as error:
+        raise Wrong(f"can't listen on {where[0]}:{where[1]}: {error}; name another address") from None
+    host, port = made.getsockname()[:2]
+    return made, f"[{host}]:{port}" if ":" in host else f"{host}:{port}"
+
+
+class Connection:
+    """A connection to a server, on which each read waits at most so many seconds."""
+
+    def __init__(self, where, timeout):
+        self.timeout = timeout
+        self.socket = socket.create_connection(where, timeout)
+        self.socket.setsockopt(socket.IPPROTO_TCP, socket.TCP_NODELAY, 1)
+
+    def __enter__(self):
+        return self
+
+    def __exit__(self, *_):
+        self.close()
+
+    def close(self):
+        self.socket.close()
+
+    def send(self, *frames):
+        self.socket.sendall(b"".join(frames))
+
+    def end_sending(self):
+        """Ends the gate's half of the connection."""
+        self.socket.shutdown(socket.SHUT_WR)
+
+    def read(self, size):
+        """So many bytes, or fewer where the connection ends before."""
+        taken = b""
+        while len(taken) < size:
+            try:
+                more = self.socket.recv(size - len(taken))
+            except TimeoutError:
+                had = f", {len(taken)} bytes of it came" if taken else ""
+                raise TimeoutError(f"no answer within {self.timeout:g} s{had}") from None
+            if not more:
+                break
+            taken += more
+        return taken
+
+    def take(self):
+        """The next answer's frame, or no bytes where the connection has ended between two."""
+        head = self.read(3)
+        if not head:
+            return head
+        if len(head) == 3 and ANSWERS.get(head[2]) != number_at(head, 0, 2):
+            raise Wrong(f"no answer begins with {head.hex()}")
+        frame = head + (self.read(number_at(head, 0, 2) - 1) if len(head) == 3 else b"")
+        if len(frame) < 3 or len(frame) < 2 + number_at(frame, 0, 2):
+            raise ConnectionError(f"the connection ended inside an answer, after {len(frame)} bytes: {frame.hex()}")
+        return frame
+
+
+Vector = collections.namedtuple("Vector", "line section request answer")
+
+
+class Station:
+    """The vectors of one server, which begins with an empty journal."""
+
+    def __init__(self, folder, line, words):
+        self.name, self.vectors, self.bad, self.waits, self.sections = words[0], [], [], [], []
+        options = dict(word.partition("=")[::2] for word in words[1:])
+        numbers = options.get("cards", ""), options.get("capacity", "")
+        if set(options) != {"table", "cards", "capacity"} or not all(number.isdecimal() for number in numbers):
+            raise Wrong(f"line {line}: a server's line has a name, and then table=, cards= and capacity=")
+        self.table = folder / options["table"]
+        self.cards, self.capacity = map(int, numbers)
+
+    def model(self):
+        """The plain model of this server."""
+        try:
+            return model.Station(model.Table(self.table.read_text()), self.cards, self.capacity)
+        except (OSError, ValueError, KeyError) as error:
+            raise Wrong(f"{self.table}: {error}; lay a valid fare table there, or name another") from None
+
+
+def hexadecimal(text, line):
+    """The bytes of a text of digits."""
+    try:
+        return bytes.fromhex(text)
+    except ValueError:
+        raise Wrong(f"line {line}: '{text[:40]}' is no text of hexadecimal digits, two for each byte") from None
+
+
+def lines_of(path):
+    """The lines of a text file, numbered from 1; - is standard input."""
+    try:
+        with open(0 if path == "-" else path, encoding="utf-8") as file:
+            return list(enumerate(file.read().split("\n"), 1))
+    except OSError as error:
+        raise Wrong(f"{path}: {error.strerror}; name a file that can be read") from None
+    except UnicodeDecodeError:
+        raise Wrong(f"{path}: this is no text file") from None
+
+
+def beginnings(text, line):
+    """The beginnings from the one to the other of a text FROM..TO, or the one that it names."""
+    first, _, last = text.partition("..")
+    low, high = hexadecimal(first, line), hexadecimal(last or first, line)
+    if len(low) != len(high) or low > high:
+        raise Wrong(f"line {line}: '{text}' doesn't go from a beginning up to another of its length")
+    numbers = range(int.from_bytes(low, "big"), int.from_bytes(high, "big") + 1)
+    return [number.to_bytes(len(low), "big") for number in numbers]
+
+
+class Reader:
+    """Reads the lines of a file of vectors, whose form its own first lines tell."""
+
+    def __init__(self, folder):
+        self.folder, self.stations, self.asked = folder, [], None
+
+    def add(self, line, text):
+        mark, _, rest = text.partition(" ")
+        if mark == "#!":
+            self.instruct(line, rest.split())
+        elif not text or mark.startswith("#"):
+            return
+        elif not self.stations:
+            raise Wrong(f"line {line}: '{text[:40]}' stands before the first line '#! server'")
+        elif text.startswith("[") and text.endswith("]"):
+            self.stations[-1].sections.append(text[1:-1])
+        elif mark == ">" and self.asked is None and self.stations[-1].sections:
+            self.asked = hexadecimal(rest, line)
+        elif mark == "<" and self.asked is not None:
+            station = self.stations[-1]
+            answer = hexadecimal(rest, line)
+            station.vectors.append(Vector(line, station.sections[-1], self.asked, answer))
+            self.asked = None
+        else:
+            raise Wrong(f"line {line}: '{text[:40]}' is no line of vectors: a section's [NAME], and then '> HEX' and "
+                        "'< HEX' in turn")
+
+    def instruct(self, line, words):
+        """Takes a line that begins with #!."""
+        if words[:1] == ["server"] and len(words) > 1:
+            self.stations.append(Station(self.folder, line, words[1:]))
+        elif words[:1] == ["bad"] and self.stations:
+            self.stations[-1].bad += [one for word in words[1:] for one in beginnings(word, line)]
+        elif words[:1] == ["waits"] and self.stations:
+            self.stations[-1].waits += [one for word in words[1:] for one in beginnings(word, line)]
+        else:
+            raise Wrong(f"line {line}: '#! {' '.join(words)[:40]}' is neither server, bad nor waits")
+
+
+def vectors(path=VECTORS):
+    """The servers of a file of vectors, each with its vectors, in the file's order."""
+    reader = Reader(pathlib.Path(path).resolve().parent)
+    try:
+        for line, text in lines_of(path):
+            reader.add(line, text.strip())
+    except Wrong as wrong:
+        raise wrong if str(wrong).startswith(str(path)) else Wrong(f"{path}: {wrong}") from None
+    if not any(station.vectors for station in reader.stations):
+        raise Wrong(f"{path}: there are no vectors in it")
+    return reader.stations
+
+
+def requests(path):
+    """The requests of a file, each with its line's number. Comments, sections and answers' lines are passed over."""
+    found = []
+    for line, text in lines_of(path):
+        text = text.strip()
+        if not text or text[0] in "#[<":
+            continue
+        frame = hexadecimal(text.removeprefix(">").strip(), line)
+        if not frame:
+            raise Wrong(f"line {line}: there is no request behind the >")
+        found.append((line, frame))
+    return found
