@@ -1,16 +1,17 @@
 //! What no clause says of an office: replies in pence, each stopped and failed disk call with each
-//! crash, seats on threads, and that it answers at all.
+//! crash, each refused allocation, seats on threads, and that it answers at all.
 mod crashes;
 mod desks;
+mod memory;
 mod openings;
 mod steps;
 mod threads;
 
-use fare_table::{EXAMPLE_TABLE, Fares};
+use fare_table::{EXAMPLE_TABLE, Fares, TableFault};
 use oyster_account::{Act, CardState, CardView, Reply, Touch};
 use reply_book::Book;
 use std::alloc::Global;
-use std::test::Fail;
+use std::process::Abort;
 use tap_desk::Enquiry;
 use tap_disk::{Choice, MemoryDisk};
 use tap_journal::{Journal, OpenFault};
@@ -103,89 +104,72 @@ const REPLIES: [Reply; 4] = [
 const CHOICES: [Choice; 4] = [Choice::Old, Choice::New, Choice::Torn(0), Choice::Torn(165)];
 
 /// The example table.
-fn table(alloc: Global) -> Result<Fares, Fail> {
-    Ok(Fares::read(alloc, EXAMPLE_TABLE)?)
+fn table(alloc: Global) -> Option<Fares> {
+    Fares::read(alloc, EXAMPLE_TABLE).ok()
 }
 
 /// A journal of no touches.
-fn new_journal(alloc: Global, capacity: u32) -> Result<Journal<MemoryDisk>, Fail> {
+fn new_journal(alloc: Global, capacity: u32) -> Option<Journal<MemoryDisk>> {
     let digest = table(alloc)?.digest();
-    let disk = MemoryDisk::new(alloc)?;
-    Ok(
-        Journal::create(disk, capacity, CARDS, &digest)
-            .ok()
-            .ok_or("no journal was made")?,
-    )
+    let disk = MemoryDisk::new(alloc).ok()?;
+    Journal::create(disk, capacity, CARDS, &digest).ok()
 }
 
-/// A disk with a journal of these touches.
-fn journal_of(alloc: Global, capacity: u32, touches: &[Touch]) -> Result<MemoryDisk, Fail> {
+/// A disk with a journal of these touches, on which no call was counted.
+fn journal_of(alloc: Global, capacity: u32, touches: &[Touch]) -> Option<MemoryDisk> {
     let mut journal = new_journal(alloc, capacity)?;
     for touch in touches {
-        journal.append(touch)?;
+        journal.append(touch).ok()?;
     }
-    Ok(journal.close().crash(Choice::New)?)
+    journal.close().crash(Choice::New).ok()
+}
+
+/// The same where there is memory.
+fn disk_of(rt: &impl Abort, alloc: Global, capacity: u32, touches: &[Touch]) -> MemoryDisk {
+    journal_of(alloc, capacity, touches).expect(rt, "no journal was made")
+}
+
+/// What such a crash leaves of a disk.
+fn crashed(rt: &impl Abort, disk: &MemoryDisk, choice: Choice) -> MemoryDisk {
+    disk.crash(choice).ok().expect(rt, "no disk was left")
 }
 
 /// An opening of the disk, or why there is none.
 type Read = Result<Opening<MemoryDisk>, OpenFault<MemoryDisk>>;
 
 /// Reads the disk, by the example table.
-fn read(alloc: Global, disk: MemoryDisk, cards: u32, seats: u16) -> Result<Read, Fail> {
-    Ok(Opening::read(alloc, disk, table(alloc)?, cards, seats))
-}
-
-/// Reads a disk that can be read, for this many seats.
-fn open(alloc: Global, disk: MemoryDisk, seats: u16) -> Result<Opening<MemoryDisk>, Fail> {
-    Ok(
-        read(alloc, disk, CARDS, seats)?
-            .ok()
-            .ok_or("the disk wasn't opened")?,
-    )
+fn read(rt: &impl Abort, alloc: Global, disk: MemoryDisk, cards: u32, seats: u16) -> Read {
+    let fares = table(alloc).expect(rt, "the table wasn't read");
+    Opening::read(alloc, disk, fares, cards, seats)
 }
 
 /// How an office ended.
-#[derive(Drop)]
-struct Ended {
-    /// How many touches were found at the opening.
-    opened: u32,
-    /// What a desk answered of card 1 at the end, before the closing.
-    asked: Option<Enquiry>,
-    /// What it answered after the closing.
-    asked_late: Option<Enquiry>,
+#[derive(Clone, Copy, Debug, PartialEq, Eq)]
+struct End {
     /// Why it wasn't closed.
     cause: Option<CloseCause>,
     halted: bool,
-    book: Book,
-    disk: MemoryDisk,
+    /// How many entries its book has.
+    entries: u32,
 }
 
-/// How an office ended that was closed like this, by what a desk answered before and after.
-fn end_of(
-    opened: u32,
-    asked: Option<Enquiry>,
-    asked_late: Option<Enquiry>,
-    closed: Result<Closed<MemoryDisk>, CloseFault<MemoryDisk>>,
-) -> Ended {
+/// The end of an office with this book.
+fn end_with(cause: Option<CloseCause>, halted: bool, book: Book) -> End {
+    End {
+        cause,
+        halted,
+        entries: book.len(),
+    }
+}
+
+/// How an office ended that was closed like this, and its disk.
+fn end_of(closed: Result<Closed<MemoryDisk>, CloseFault<MemoryDisk>>) -> (End, MemoryDisk) {
     match closed {
-        Ok(closed) => Ended {
-            opened,
-            asked,
-            asked_late,
-            cause: None,
-            halted: closed.halted,
-            book: closed.book,
-            disk: closed.disk,
-        },
-        Err(fault) => Ended {
-            opened,
-            asked,
-            asked_late,
-            cause: Some(fault.cause),
-            halted: fault.halted,
-            book: fault.book,
-            disk: fault.disk,
-        },
+        Ok(closed) => (end_with(None, closed.halted, closed.book), closed.disk),
+        Err(fault) => {
+            let cause = Some(fault.cause);
+            (end_with(cause, fault.halted, fault.book), fault.disk)
+        }
     }
 }
 

@@ -6,7 +6,6 @@ ghost use Rattle.tap_office.specs.Opening.{opened_of};
 
 use super::*;
 use std::marker::Brand;
-use std::process::Abort;
 use std::sync::Wait;
 use std::thread;
 use std::thread::Threads;
@@ -101,10 +100,14 @@ fn commit_one<N: Named, R: Wait>(
     desk: &mut Desk<N>,
     touch: Touch,
 ) -> Option<u32> {
-    let receipt = office.submit(rt, seat, touch).ok()?;
-    let place = receipt.place;
-    desk.learn(receipt);
-    Some(place)
+    match office.submit(rt, seat, touch) {
+        Ok(receipt) => {
+            let place = receipt.place;
+            desk.learn(receipt);
+            Some(place)
+        }
+        Err(_) => None,
+    }
 }
 
 /// Has each worker do its work, in a thread of its own where one can be made.
@@ -128,47 +131,54 @@ fn work_all<N: Named + Send + Sync, R: Threads + Wait + Sync>(
 
 /// A worker on each of these seats, with a desk. The first two commit.
 fn workers_of<N: Named>(
+    rt: &impl Abort,
     alloc: Global,
     seats: Vec<Seat<N>>,
     desks: Vec<Desk<N>>,
-) -> Option<Vec<Worker<N>>> {
-    let mut workers = Vec::with_capacity(alloc, 4).ok()?;
+) -> Vec<Worker<N>> {
+    let mut workers = Vec::new(alloc);
+    let mut desks = desks;
     let mut number: u16 = 0;
-    for (seat, desk) in seats.into_iter().zip(desks) {
+    for seat in seats {
         number = number.saturating_add(1);
-        workers
-            .push(Worker {
-                number,
-                seat,
-                desk,
-                commits: number <= 2,
-                log: Log {
-                    heard: Vec::new(alloc),
-                    answers: 0,
-                    wrong: 0,
-                },
-            })
-            .ok()?;
+        let worker = Worker {
+            number,
+            seat,
+            desk: desks.pop().expect(rt, "a desk is missing"),
+            commits: number <= 2,
+            log: Log {
+                heard: Vec::new(alloc),
+                answers: 0,
+                wrong: 0,
+            },
+        };
+        workers.push(worker).ok().expect(rt, "memory");
     }
-    Some(workers)
+    workers
 }
 
-/// The workers' seats, and what each worker heard: it had each answer, and none was wrong.
-fn left_by<N: Named, R: Abort>(
-    rt: &R,
+/// A worker had each answer, and none was wrong.
+fn assert_answered<N: Named>(rt: &impl Abort, worker: &Worker<N>) {
+    let answers = if worker.commits { TOUCHES } else { ENQUIRIES };
+    assert_eq!(rt; worker.log.wrong, 0);
+    assert_eq!(rt; worker.log.answers, answers);
+}
+
+/// The workers' seats, and what each worker heard.
+fn left_by<N: Named>(
+    rt: &impl Abort,
     alloc: Global,
     workers: Vec<Worker<N>>,
-) -> Option<(Vec<Seat<N>>, Vec<Vec<Enquiry>>)> {
+) -> (Vec<Seat<N>>, Vec<Vec<Enquiry>>) {
     let mut seats = Vec::new(alloc);
     let mut heard = Vec::new(alloc);
     for worker in workers {
-        let answers = if worker.commits { TOUCHES } else { ENQUIRIES };
-        assert_eq!(rt; worker.log.wrong, 0);
-        assert_eq!(rt; worker.log.answers, answers);
-        seats.push(worker.seat).ok()?;
-        heard.push(worker.log.heard).ok()?;
+        assert_answered(rt, &worker);
+        let Worker { seat, log, .. } = worker;
+        seats.push(seat).ok().expect(rt, "memory");
+        heard.push(log.heard).ok().expect(rt, "memory");
     }
-    Some((seats, heard))
+    (seats, heard)
 }
 
 /// The touches of a book, oldest first.
@@ -186,23 +196,23 @@ fn commit_and_ask<N: Named + Send + Sync, R: Threads + Wait + Sync + Abort>(
     rt: &R,
     alloc: Global,
     opening: Opening<MemoryDisk>,
-) -> Result<(Vec<Touch>, Vec<Vec<Enquiry>>), Fail>
+) -> (Vec<Touch>, Vec<Vec<Enquiry>>)
     requires { IsNameOf N.opened N.name N.parts N.story N.table (opened_of opening) }
 {
     let (office, seats, desks) = opening
         .office::<N, R>(rt, alloc)
         .ok()
-        .ok_or("no office was made")?;
-    let mut workers = workers_of(alloc, seats, desks).expect(rt, "no workers were made");
+        .expect(rt, "no office was made");
+    let mut workers = workers_of(rt, alloc, seats, desks);
     assert!(rt; !workers.is_empty());
     work_all(rt, &office, workers.as_mut_slice());
-    let (seats, heard) = left_by(rt, alloc, workers).expect(rt, "no seats were left");
+    let (seats, heard) = left_by(rt, alloc, workers);
     let closed = office
         .close(rt, seats)
         .ok()
         .expect(rt, "the office wasn't closed");
     let touches = touches_in(alloc, &closed.book).expect(rt, "an entry is missing");
-    Ok((touches, heard))
+    (touches, heard)
 }
 
 /// What is seen of card 1 after these touches, of which a book can hold a million.
@@ -225,15 +235,28 @@ fn compare(rt: &impl Abort, alloc: Global, fares: &Fares, touches: &[Touch], ans
     }
 }
 
-#[test]
-fn desks_answer_from_beginnings_of_the_history(rt: HostRuntime) -> Result<(), Fail> {
-    let alloc = rt.alloc();
-    let opening = open(alloc, journal_of(alloc, 100, &[ISSUE])?, 4)?;
-    let (touches, heard) = commit_and_ask::<Brand, HostRuntime>(&rt, alloc, opening)?;
-    assert_eq!(rt; touches.len(), 41);
-    let fares = table(alloc)?;
-    for answers in &heard {
-        compare(&rt, alloc, &fares, &touches, answers);
+/// What each desk heard is so.
+fn compare_all(
+    rt: &impl Abort,
+    alloc: Global,
+    fares: &Fares,
+    touches: &[Touch],
+    heard: &[Vec<Enquiry>],
+) {
+    for answers in heard {
+        compare(rt, alloc, fares, touches, answers);
     }
-    Ok(())
+}
+
+#[test]
+fn desks_answer_from_beginnings_of_the_history(rt: HostRuntime) {
+    let alloc = rt.alloc();
+    let disk = disk_of(&rt, alloc, 100, &[ISSUE]);
+    let opening = read(&rt, alloc, disk, CARDS, 4)
+        .ok()
+        .expect(&rt, "the disk wasn't opened");
+    let (touches, heard) = commit_and_ask::<Brand, HostRuntime>(&rt, alloc, opening);
+    assert_eq!(rt; touches.len(), 41);
+    let fares = table(alloc).expect(&rt, "the table wasn't read");
+    compare_all(&rt, alloc, &fares, &touches, &heard);
 }

@@ -3,121 +3,231 @@ ghost use Rattle.tap_office.specs.Name.{IsNameOf};
 ghost use Rattle.tap_office.specs.Opening.{opened_of};
 
 use super::*;
+use std::fmt::Display;
 use std::marker::Brand;
-use std::process::Abort;
 use std::sync::Wait;
-use tap_office::{Named, Office, Receipt, Seat};
+use tap_office::{Desk, Filed, Named, Office, Receipt, Seat};
 
-/// What a submit answered.
-fn told<N: Named>(answer: Result<Receipt<N>, SubmitFault>) -> Answer {
-    match answer {
-        Ok(receipt) => {
-            if receipt.fresh {
-                Answer::First(receipt.place, receipt.reply)
-            } else {
-                Answer::Again(receipt.place, receipt.reply)
-            }
-        }
+/// How an office of two seats was worked through.
+#[derive(Clone, Copy, Debug, PartialEq, Eq)]
+pub struct Outcome {
+    /// How many touches were found at the opening.
+    pub opened: u32,
+    /// The first step that wasn't answered as it was to be, counted from 0, and its answer.
+    pub stray: Option<(u32, Answer)>,
+    /// What a desk that learnt nothing answered of card 1 at the end, before the closing.
+    pub asked: Option<Enquiry>,
+    /// What it answered after the closing.
+    pub asked_late: Option<Enquiry>,
+    pub end: End,
+}
+
+/// The outcome of an office that found so many touches, answered each step as it was to be, and was
+/// closed with so many entries. Card 1 is outside with this balance then.
+pub fn worked(opened: u32, balance: i64, entries: u32) -> Outcome {
+    Outcome {
+        opened,
+        stray: None,
+        asked: outside(balance, entries),
+        asked_late: None,
+        end: End {
+            cause: None,
+            halted: false,
+            entries,
+        },
+    }
+}
+
+/// Has a desk learn a receipt: it is answered of more entries than the touch's place.
+fn learn<N: Named>(rt: &impl Abort, desk: &mut Desk<N>, receipt: Receipt<N>) -> Answer {
+    let place = receipt.place;
+    let answer = if receipt.fresh {
+        Answer::First(place, receipt.reply)
+    } else {
+        Answer::Again(place, receipt.reply)
+    };
+    desk.learn(receipt);
+    let heard = desk.enquire(1).expect(rt, "a desk had no answer");
+    assert!(rt; place < heard.front);
+    answer
+}
+
+/// Submits a touch, and once more where memory was refused: it wasn't committed then. The desk
+/// learns its receipt.
+fn submit_again<N: Named, R: Wait + Abort>(
+    rt: &R,
+    office: &Office<N, MemoryDisk>,
+    seat: &mut Seat<N>,
+    desk: &mut Desk<N>,
+    touch: Touch,
+) -> Answer {
+    match office.submit(rt, seat, touch) {
+        Ok(receipt) => learn(rt, desk, receipt),
+        Err(SubmitFault::Memory) => match office.submit(rt, seat, touch) {
+            Ok(receipt) => learn(rt, desk, receipt),
+            Err(fault) => Answer::Fault(fault),
+        },
         Err(fault) => Answer::Fault(fault),
     }
 }
 
-/// Submits a touch, and once more where memory was refused: it wasn't committed then.
-fn submit_again<N: Named, R: Wait>(
-    rt: &R,
-    office: &Office<N, MemoryDisk>,
-    seat: &mut Seat<N>,
-    touch: Touch,
-) -> Answer {
-    let answer = told(office.submit(rt, seat, touch));
-    if answer != Answer::Fault(SubmitFault::Memory) {
-        return answer;
+/// A seat's last receipt is that of a new touch which was answered here.
+fn assert_filed<N: Named>(rt: &impl Abort, seat: &Seat<N>, touch: Touch, answer: Answer) {
+    if let Answer::First(place, reply) = answer {
+        let filed = Filed {
+            place,
+            touch,
+            reply,
+        };
+        assert_eq!(rt; seat.receipts().last().copied(), Some(filed));
     }
-    told(office.submit(rt, seat, touch))
 }
 
-/// Submits the touches, and compares their answers.
+/// Submits the touches until one isn't answered as it is to be, and tells which. The desk learns
+/// each receipt.
 fn submit_steps<N: Named, R: Wait + Abort>(
     rt: &R,
     office: &Office<N, MemoryDisk>,
     seats: &mut [Seat<N>],
+    desk: &mut Desk<N>,
     steps: &[Step],
-) {
+) -> Option<(u32, Answer)> {
     let mut row = 0u32;
     for step in steps {
         assert!(rt; step.seat < seats.len());
         let seat = &mut seats[step.seat];
         let before = seat.seen();
-        let answer = submit_again(rt, office, seat, step.touch);
-        assert_eq!(rt; answer, step.want, "step {row}");
+        let answer = submit_again(rt, office, seat, desk, step.touch);
         assert!(rt; before <= seat.seen(), "step {row}");
+        assert_filed(rt, seat, step.touch, answer);
+        if answer != step.want {
+            return Some((row, answer));
+        }
         row = row.saturating_add(1);
     }
+    None
 }
 
-/// Opens an office for two seats, submits the touches, asks for card 1, and closes with as many
-/// seats as are not kept back.
+/// Two desks, of which the first is to learn receipts.
+fn two_desks<N: Named>(rt: &impl Abort, desks: Vec<Desk<N>>) -> (Desk<N>, Desk<N>) {
+    let mut desks = desks;
+    let desk = desks.pop().expect(rt, "no desk was made");
+    (desks.pop().expect(rt, "one desk was made"), desk)
+}
+
+/// Closes an office with as many of its seats as are not kept back. This desk answers no more.
+fn close<N: Named, R: Wait + Abort>(
+    rt: &R,
+    office: Office<N, MemoryDisk>,
+    seats: Vec<Seat<N>>,
+    kept_back: usize,
+    learner: &mut Desk<N>,
+) -> (End, MemoryDisk) {
+    let mut seats = seats;
+    for _ in 0..kept_back {
+        let _kept = seats.pop();
+    }
+    let closed = office.close(rt, seats);
+    assert_eq!(rt; learner.enquire(1), None);
+    end_of(closed)
+}
+
+/// Makes an office of two seats, submits the touches, asks for card 1, and closes with as many
+/// seats as are not kept back. Gives the disk.
 fn work_through<N: Named, R: Wait + Abort>(
     rt: &R,
     alloc: Global,
     opening: Opening<MemoryDisk>,
     steps: &[Step],
     kept_back: usize,
-) -> Result<Ended, Fail>
+) -> Result<(Outcome, MemoryDisk), OpenFault<MemoryDisk>>
     requires { IsNameOf N.opened N.name N.parts N.story N.table (opened_of opening) }
 {
-    let (office, mut seats, mut desks) = opening
-        .office::<N, R>(rt, alloc)
-        .ok()
-        .ok_or("no office was made")?;
-    submit_steps(rt, &office, seats.as_mut_slice(), steps);
-    let mut desk = desks.pop().expect(rt, "no desk was made");
-    let asked = desk.enquire(1);
+    let (office, mut seats, desks) = opening.office::<N, R>(rt, alloc)?;
+    let (mut learner, mut desk) = two_desks(rt, desks);
+    let stray = submit_steps(rt, &office, seats.as_mut_slice(), &mut learner, steps);
     let opened = office.opened();
-    for _ in 0..kept_back {
-        let _kept = seats.pop();
-    }
-    let closed = office.close(rt, seats);
-    Ok(end_of(opened, asked, desk.enquire(1), closed))
+    let asked = desk.enquire(1);
+    let (end, disk) = close(rt, office, seats, kept_back, &mut learner);
+    let outcome = Outcome {
+        opened,
+        stray,
+        asked,
+        asked_late: desk.enquire(1),
+        end,
+    };
+    Ok((outcome, disk))
 }
 
 /// The same by a name of its own.
-pub fn work<R: Wait + Abort>(
+pub fn try_work<R: Wait + Abort>(
     rt: &R,
     alloc: Global,
     opening: Opening<MemoryDisk>,
     steps: &[Step],
-) -> Result<Ended, Fail> {
-    work_through::<Brand, R>(rt, alloc, opening, steps, 0)
+    kept_back: usize,
+) -> Result<(Outcome, MemoryDisk), OpenFault<MemoryDisk>> {
+    work_through::<Brand, R>(rt, alloc, opening, steps, kept_back)
+}
+
+/// The same on a disk, where there is memory.
+fn work_but<R: Wait + Abort>(
+    rt: &R,
+    alloc: Global,
+    disk: MemoryDisk,
+    steps: &[Step],
+    kept_back: usize,
+) -> (Outcome, MemoryDisk) {
+    let opening = read(rt, alloc, disk, CARDS, 2)
+        .ok()
+        .expect(rt, "the disk wasn't opened");
+    try_work(rt, alloc, opening, steps, kept_back)
+        .ok()
+        .expect(rt, "no office was made")
+}
+
+/// The same with all seats at the closing.
+pub fn work<R: Wait + Abort>(
+    rt: &R,
+    alloc: Global,
+    disk: MemoryDisk,
+    steps: &[Step],
+) -> (Outcome, MemoryDisk) {
+    work_but(rt, alloc, disk, steps, 0)
+}
+
+/// The outcome alone.
+pub fn outcome_of<R: Wait + Abort>(
+    rt: &R,
+    alloc: Global,
+    disk: MemoryDisk,
+    steps: &[Step],
+) -> Outcome {
+    work(rt, alloc, disk, steps).0
+}
+
+/// The touches of a gate to a journal of two, and their answers: it is full at the third.
+pub fn full_steps() -> [Step; 4] {
+    [
+        from_first(ISSUE, Answer::First(0, REPLIES[0])),
+        from_first(TOP_UP, Answer::First(1, REPLIES[1])),
+        from_first(ENTER, Answer::Fault(SubmitFault::Full)),
+        from_first(ISSUE, Answer::Again(0, REPLIES[0])),
+    ]
 }
 
 #[test]
-fn a_full_journal_still_answers_repeats(rt: HostRuntime) -> Result<(), Fail> {
+fn a_full_journal_still_answers_repeats(rt: HostRuntime) {
     let alloc = rt.alloc();
-    let opening = open(alloc, journal_of(alloc, 2, &[])?, 2)?;
-    let ended = work(
-        &rt,
-        alloc,
-        opening,
-        &[
-            from_first(ISSUE, Answer::First(0, REPLIES[0])),
-            from_first(TOP_UP, Answer::First(1, REPLIES[1])),
-            from_first(ENTER, Answer::Fault(SubmitFault::Full)),
-            from_first(ISSUE, Answer::Again(0, REPLIES[0])),
-            from_first(ENTER, Answer::Fault(SubmitFault::Full)),
-        ],
-    )?;
-    assert_eq!(rt; ended.book.len(), 2);
-    assert_eq!(rt; ended.asked, outside(2000, 2));
-    assert_eq!(rt; ended.cause, None);
-    assert!(rt; !ended.halted);
-    Ok(())
+    let disk = disk_of(&rt, alloc, 2, &[]);
+    let outcome = outcome_of(&rt, alloc, disk, &full_steps());
+    assert_eq!(rt; outcome, worked(0, 2000, 2));
 }
 
 #[test]
-fn another_touch_under_a_used_number_is_a_conflict(rt: HostRuntime) -> Result<(), Fail> {
+fn another_touch_under_a_used_number_is_a_conflict(rt: HostRuntime) {
     let alloc = rt.alloc();
-    let opening = open(alloc, journal_of(alloc, 5, &[ISSUE, TOP_UP, ENTER])?, 2)?;
+    let disk = disk_of(&rt, alloc, 5, &[ISSUE, TOP_UP, ENTER]);
     let other = Touch {
         act: Act::Leave {
             station: 3,
@@ -125,79 +235,68 @@ fn another_touch_under_a_used_number_is_a_conflict(rt: HostRuntime) -> Result<()
         },
         ..LEAVE
     };
-    let ended = work(
-        &rt,
-        alloc,
-        opening,
-        &[
-            from_first(LEAVE, Answer::First(3, REPLIES[3])),
-            from_first(other, Answer::Fault(SubmitFault::Conflict)),
-            Step {
-                seat: 1,
-                touch: LEAVE,
-                want: Answer::Again(3, REPLIES[3]),
-            },
-            from_first(TOP_UP, Answer::Again(1, REPLIES[1])),
-        ],
-    )?;
-    assert_eq!(rt; ended.opened, 3);
-    assert_eq!(rt; ended.asked, outside(1650, 4));
-    assert_eq!(rt; ended.cause, None);
-    Ok(())
+    let steps = [
+        from_first(LEAVE, Answer::First(3, REPLIES[3])),
+        from_first(other, Answer::Fault(SubmitFault::Conflict)),
+        Step {
+            seat: 1,
+            touch: LEAVE,
+            want: Answer::Again(3, REPLIES[3]),
+        },
+        from_first(TOP_UP, Answer::Again(1, REPLIES[1])),
+    ];
+    assert_eq!(rt; outcome_of(&rt, alloc, disk, &steps), worked(3, 1650, 4));
 }
 
 #[test]
-fn a_repeat_after_closing_and_opening_gets_its_first_reply(rt: HostRuntime) -> Result<(), Fail> {
+fn a_repeat_after_closing_and_opening_gets_its_first_reply(rt: HostRuntime) {
     let alloc = rt.alloc();
-    let first = open(alloc, journal_of(alloc, 5, &[])?, 2)?;
-    let ended = work(
-        &rt,
-        alloc,
-        first,
-        &[
-            from_first(ISSUE, Answer::First(0, REPLIES[0])),
-            from_first(TOP_UP, Answer::First(1, REPLIES[1])),
-            from_first(ENTER, Answer::First(2, REPLIES[2])),
-            from_first(LEAVE, Answer::First(3, REPLIES[3])),
-        ],
-    )?;
-    assert_eq!(rt; ended.cause, None);
-    let second = open(alloc, ended.disk, 2)?;
-    let again = work(
-        &rt,
-        alloc,
-        second,
-        &[
-            from_first(LEAVE, Answer::Again(3, REPLIES[3])),
-            from_first(ENTER, Answer::Again(2, REPLIES[2])),
-        ],
-    )?;
-    assert_eq!(rt; again.opened, 4);
-    assert_eq!(rt; again.asked, outside(1650, 4));
-    Ok(())
+    let disk = disk_of(&rt, alloc, 5, &[]);
+    let steps = [
+        from_first(ISSUE, Answer::First(0, REPLIES[0])),
+        from_first(TOP_UP, Answer::First(1, REPLIES[1])),
+        from_first(ENTER, Answer::First(2, REPLIES[2])),
+        from_first(LEAVE, Answer::First(3, REPLIES[3])),
+    ];
+    let (outcome, disk) = work(&rt, alloc, disk, &steps);
+    assert_eq!(rt; outcome, worked(0, 1650, 4));
+    let steps = [
+        from_first(LEAVE, Answer::Again(3, REPLIES[3])),
+        from_first(ENTER, Answer::Again(2, REPLIES[2])),
+    ];
+    assert_eq!(rt; outcome_of(&rt, alloc, disk, &steps), worked(4, 1650, 4));
 }
 
 #[test]
-fn a_seat_that_is_missing_is_told(rt: HostRuntime) -> Result<(), Fail> {
+fn a_seat_that_is_missing_is_told(rt: HostRuntime) {
     let alloc = rt.alloc();
-    let opening = open(alloc, journal_of(alloc, 5, &[])?, 2)?;
+    let disk = disk_of(&rt, alloc, 5, &[]);
     let steps = [from_first(ISSUE, Answer::First(0, REPLIES[0]))];
-    let ended = work_through::<Brand, HostRuntime>(&rt, alloc, opening, &steps, 1)?;
-    assert_eq!(rt; ended.cause, Some(CloseCause::SeatMissing));
-    assert_eq!(rt; ended.book.len(), 1);
-    let next = open(alloc, ended.disk, 2)?;
-    let again = work(
-        &rt,
-        alloc,
-        next,
-        &[from_first(ISSUE, Answer::Again(0, REPLIES[0]))],
-    )?;
-    assert_eq!(rt; again.opened, 1);
-    Ok(())
+    let (outcome, disk) = work_but(&rt, alloc, disk, &steps, 1);
+    let end = End {
+        cause: Some(CloseCause::SeatMissing),
+        halted: false,
+        entries: 1,
+    };
+    assert_eq!(rt;
+        outcome,
+        Outcome {
+            end,
+            ..worked(0, 0, 1)
+        }
+    );
+    let steps = [from_first(ISSUE, Answer::Again(0, REPLIES[0]))];
+    assert_eq!(rt; outcome_of(&rt, alloc, disk, &steps), worked(1, 0, 1));
+}
+
+/// What is printed of a value is this text.
+fn assert_printed(rt: &impl Abort, alloc: Global, value: &impl Display, text: &str) {
+    let printed = format!(in alloc; "{value}").ok().expect(rt, "memory");
+    assert_eq!(rt; printed.as_str(), text);
 }
 
 #[test]
-fn a_fault_says_its_number_and_cause(rt: HostRuntime) -> Result<(), Fail> {
+fn a_fault_says_its_number_and_cause(rt: HostRuntime) {
     let alloc = rt.alloc();
     let rows = [
         (
@@ -211,12 +310,7 @@ fn a_fault_says_its_number_and_cause(rt: HostRuntime) -> Result<(), Fail> {
     ];
     for (fault, code, text) in rows {
         assert_eq!(rt; fault.code(), code);
-        assert_eq!(rt; format!(in alloc; "{fault}")?.as_str(), text);
+        assert_printed(&rt, alloc, &fault, text);
     }
-    let missing = CloseCause::SeatMissing;
-    assert_eq!(rt;
-        format!(in alloc; "{missing}")?.as_str(),
-        "a seat is missing"
-    );
-    Ok(())
+    assert_printed(&rt, alloc, &CloseCause::SeatMissing, "a seat is missing");
 }

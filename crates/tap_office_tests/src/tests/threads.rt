@@ -6,7 +6,6 @@ ghost use Rattle.tap_office.specs.Opening.{opened_of};
 
 use super::*;
 use std::marker::Brand;
-use std::process::Abort;
 use std::sync::Wait;
 use std::thread;
 use std::thread::Threads;
@@ -57,25 +56,26 @@ fn submit_all<N: Named + Send + Sync, R: Threads + Wait + Sync>(
 
 /// The gates 1 and 2, of which the first learns its receipts.
 fn make_gates<N: Named>(
+    rt: &impl Abort,
     alloc: Global,
     seats: Vec<Seat<N>>,
     desks: Vec<Desk<N>>,
-) -> Option<Vec<Gate<N>>> {
-    let mut gates = Vec::with_capacity(alloc, 2).ok()?;
+) -> Vec<Gate<N>> {
+    let mut gates = Vec::new(alloc);
+    let mut desks = desks;
     let mut number: u16 = 0;
-    for (seat, desk) in seats.into_iter().zip(desks) {
+    for seat in seats {
         number = number.saturating_add(1);
-        gates
-            .push(Gate {
-                number,
-                seat,
-                desk,
-                learns: number == 1,
-                answered: 0,
-            })
-            .ok()?;
+        let gate = Gate {
+            number,
+            seat,
+            desk: desks.pop().expect(rt, "a desk is missing"),
+            learns: number == 1,
+            answered: 0,
+        };
+        gates.push(gate).ok().expect(rt, "memory");
     }
-    Some(gates)
+    gates
 }
 
 /// A gate has a receipt for each of its three top-ups, whose places it adds to these, and its desk
@@ -112,51 +112,97 @@ fn take_all<N: Named, R: Abort>(rt: &R, alloc: Global, gates: &mut [Gate<N>]) ->
 }
 
 /// The gates' seats and desks.
-fn left_by<N: Named>(alloc: Global, gates: Vec<Gate<N>>) -> Option<(Vec<Seat<N>>, Vec<Desk<N>>)> {
+fn left_by<N: Named>(
+    rt: &impl Abort,
+    alloc: Global,
+    gates: Vec<Gate<N>>,
+) -> (Vec<Seat<N>>, Vec<Desk<N>>) {
     let mut seats = Vec::new(alloc);
     let mut desks = Vec::new(alloc);
     for gate in gates {
-        seats.push(gate.seat).ok()?;
-        desks.push(gate.desk).ok()?;
+        seats.push(gate.seat).ok().expect(rt, "memory");
+        desks.push(gate.desk).ok().expect(rt, "memory");
     }
-    Some((seats, desks))
+    (seats, desks)
 }
 
-/// Opens an office for two gates that submit three top-ups each side by side, and closes it.
+/// What came of an office for two gates.
+#[derive(Clone, Copy, Debug, PartialEq, Eq)]
+struct Shared {
+    /// How many touches were found at the opening.
+    opened: u32,
+    /// What the desk that learnt nothing answered of card 1, before the closing.
+    asked: Option<Enquiry>,
+    halted: bool,
+    /// How many entries the book has.
+    entries: u32,
+    /// The seat of the first.
+    first_seat: Option<u16>,
+}
+
+/// None of the desks answers any more.
+fn assert_silent<N: Named>(rt: &impl Abort, desks: Vec<Desk<N>>) {
+    for mut desk in desks {
+        assert_eq!(rt; desk.enquire(1), None);
+    }
+}
+
+/// Closes the office against the gates' seats.
+fn close_gates<N: Named, R: Wait + Abort>(
+    rt: &R,
+    alloc: Global,
+    office: Office<N, MemoryDisk>,
+    gates: Vec<Gate<N>>,
+) -> Closed<MemoryDisk> {
+    let (seats, desks) = left_by(rt, alloc, gates);
+    let closed = office
+        .close(rt, seats)
+        .ok()
+        .expect(rt, "the office wasn't closed");
+    assert_silent(rt, desks);
+    closed
+}
+
+/// Makes an office for two gates that submit three top-ups each side by side, and closes it.
 fn two_gates<N: Named + Send + Sync, R: Threads + Wait + Sync + Abort>(
     rt: &R,
     alloc: Global,
     opening: Opening<MemoryDisk>,
-) -> Result<Ended, Fail>
+) -> Shared
     requires { IsNameOf N.opened N.name N.parts N.story N.table (opened_of opening) }
 {
     let (office, seats, desks) = opening
         .office::<N, R>(rt, alloc)
         .ok()
-        .ok_or("no office was made")?;
-    let mut gates = make_gates(alloc, seats, desks).expect(rt, "no gates were made");
+        .expect(rt, "no office was made");
+    let mut gates = make_gates(rt, alloc, seats, desks);
     assert!(rt; !gates.is_empty());
     submit_all(rt, &office, gates.as_mut_slice());
     let asked = take_all(rt, alloc, gates.as_mut_slice());
-    let (seats, mut desks) = left_by(alloc, gates).expect(rt, "no seats were left");
     let opened = office.opened();
-    let closed = office.close(rt, seats);
-    for desk in &mut desks {
-        assert_eq!(rt; desk.enquire(1), None);
+    let closed = close_gates(rt, alloc, office, gates);
+    Shared {
+        opened,
+        asked,
+        halted: closed.halted,
+        entries: closed.book.len(),
+        first_seat: closed.book.entry(0).map(|entry| entry.seat),
     }
-    Ok(end_of(opened, asked, None, closed))
 }
 
 #[test]
-fn two_seats_on_two_threads_share_one_book(rt: HostRuntime) -> Result<(), Fail> {
+fn two_seats_on_two_threads_share_one_book(rt: HostRuntime) {
     let alloc = rt.alloc();
-    let opening = open(alloc, journal_of(alloc, 10, &[ISSUE])?, 2)?;
-    let ended = two_gates::<Brand, HostRuntime>(&rt, alloc, opening)?;
-    assert_eq!(rt; ended.opened, 1);
-    assert_eq!(rt; ended.asked, outside(600, 7));
-    assert_eq!(rt; ended.cause, None);
-    assert!(rt; !ended.halted);
-    assert_eq!(rt; ended.book.len(), 7);
-    assert_eq!(rt; ended.book.entry(0).map(|entry| entry.seat), Some(0));
-    Ok(())
+    let opening = read(&rt, alloc, disk_of(&rt, alloc, 10, &[ISSUE]), CARDS, 2)
+        .ok()
+        .expect(&rt, "the disk wasn't opened");
+    let want = Shared {
+        opened: 1,
+        asked: outside(600, 7),
+        halted: false,
+        entries: 7,
+        first_seat: Some(0),
+    };
+    let shared = two_gates::<Brand, HostRuntime>(&rt, alloc, opening);
+    assert_eq!(rt; shared, want);
 }
