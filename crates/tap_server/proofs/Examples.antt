@@ -1,5 +1,5 @@
 -- Worked examples, computed by the definitions: the lines of docs/OPERATING.md, "check".
-use Rattle.std.proofs.Common.{◌≡◌, refl, ℕ, [], ◌∷◌, ◌++◌, false, codes}
+use Rattle.std.proofs.Common.{◌≡◌, refl, [], ◌∷◌, false, codes}
 use Rattle.std.specs.Fmt.{digits}
 use Rattle.hex.proofs.OnLiterals.{hex_on_literals}
 use Rattle.fare_table.specs.declared.key.Key.TheVariants as key

@@ -1,5 +1,5 @@
 -- What a whole session leaves of its seat, and how many requests it has at most.
-use Rattle.std.proofs.Common.{◌≡◌, ℕ, ◌*◌, ◌≤◌, Bool, true, false, List, [], ◌∷◌, ◌++◌, length, Some, refl, sym, ap, subst, ◌∙◌, inl, inr, append_assoc, append-nil, arith}
+use Rattle.std.proofs.Common.{◌≡◌, ℕ, ◌+◌, ◌*◌, ◌≤◌, Bool, true, false, List, [], ◌∷◌, ◌++◌, length, Option, Some, None, refl, sym, ap, subst, ◌∙◌, inl, inr, append_assoc, append-nil, arith}
 use mathlib.Core.List.{IsPrefix}
 use Rattle.std.specs.List.{All}
 use Rattle.std.proofs.lemmas.List.{length-append}
@@ -24,81 +24,117 @@ use Rattle.tap_desk.specs.declared.page.StoryName.{Ghosts}
 use Rattle.tap_desk.specs.Desks.{Known}
 use Rattle.tap_desk.proofs.Prefixes.{prefix_self, prefix_trans}
 use Rattle.tap_server.specs.Clerk.{ClerkState, GoesOn, DeskGoesOn, HasGiven, IsReplied}
+use Rattle.tap_server.specs.Post.{HasGivenMore}
+
+-- ---- lines
+
+pub HasGivenMore-none : (given : Option ℕ) → HasGivenMore given given 0
+HasGivenMore-none None = tt
+HasGivenMore-none (Some count) = omega arith
+
+pub HasGivenMore-more : (a b c : Option ℕ) (m n : ℕ) → HasGivenMore a b m → HasGivenMore b c n → HasGivenMore a c (m + n)
+HasGivenMore-more None b c m n first second = tt
+HasGivenMore-more (Some x) None c m n first second = absurd first
+HasGivenMore-more (Some x) (Some y) None m n first second = absurd second
+HasGivenMore-more (Some x) (Some y) (Some z) m n first second = omega (arith, first, second)
 
 -- ---- seats
 
-pub GoesOn-same : (before after : SeatState) → after ≡ before → GoesOn before after
+pub GoesOn-same : (before after : SeatState) → after ≡ before → GoesOn 0 before after
 GoesOn-same before after is = record {
   number = ap (λ (s : SeatState). s.number) is;
   later = [];
   receipts = ap (λ (s : SeatState). s.receipts) is ∙ sym (append-nil before.receipts);
+  few = omega arith;
 }
 
-pub GoesOn-more : (a b c : SeatState) → GoesOn a b → GoesOn b c → GoesOn a c
-GoesOn-more a b c first second = record {
+pub GoesOn-more : (m n : ℕ) (a b c : SeatState) → GoesOn m a b → GoesOn n b c → GoesOn (m + n) a c
+GoesOn-more m n a b c first second = record {
   number = second.number ∙ first.number;
   later = first.later ++ second.later;
   receipts =
       second.receipts
       ∙ ap (λ (l : List _). l ++ second.later) first.receipts
       ∙ append_assoc a.receipts first.later second.later;
+  few = omega (arith, first.few, second.few, length-append first.later second.later);
+}
+
+-- a bound on the requests may be larger
+pub GoesOn-within : (m n : ℕ) (a b : SeatState) → m ≤ n → GoesOn m a b → GoesOn n a b
+GoesOn-within m n a b within on = record {
+  number = on.number;
+  later = on.later;
+  receipts = on.receipts;
+  few = omega (arith, within, on.few);
 }
 
 -- ---- desks
 
 pub DeskGoesOn-same : (before after : Known) → after.list ≡ before.list → after.notes ≡ before.notes
-    → DeskGoesOn before after
+    → DeskGoesOn 0 before after
 DeskGoesOn-same before after list notes = record {
   list = subst (λ (l : List Entry). IsPrefix before.list l) (sym list) (prefix_self before.list);
   newer = [];
   notes = notes;
+  few = omega arith;
 }
 
-pub DeskGoesOn-more : (a b c : Known) → DeskGoesOn a b → DeskGoesOn b c → DeskGoesOn a c
-DeskGoesOn-more a b c first second = record {
+pub DeskGoesOn-more : (m n : ℕ) (a b c : Known) → DeskGoesOn m a b → DeskGoesOn n b c → DeskGoesOn (m + n) a c
+DeskGoesOn-more m n a b c first second = record {
   list = prefix_trans a.list b.list c.list first.list second.list;
   newer = second.newer ++ first.newer;
   notes =
       second.notes
       ∙ ap (λ (l : List (List Entry)). second.newer ++ l) first.notes
       ∙ sym (append_assoc second.newer first.newer a.notes);
+  few = omega (arith, first.few, second.few, length-append second.newer first.newer);
+}
+
+pub DeskGoesOn-within : (m n : ℕ) (a b : Known) → m ≤ n → DeskGoesOn m a b → DeskGoesOn n a b
+DeskGoesOn-within m n a b within on = record {
+  list = on.list;
+  newer = on.newer;
+  notes = on.notes;
+  few = omega (arith, within, on.few);
 }
 
 -- ---- clerks
 
--- a clerk goes on where its seat and its desk do
-pub record ClerkGoesOn (before after : ClerkState) : Type 0 where
-  pub seat : GoesOn before.seat after.seat
-  pub desk : DeskGoesOn before.desk after.desk
+-- a clerk goes on over so many requests where its seat and its desk do
+pub record ClerkGoesOn (requests : ℕ) (before after : ClerkState) : Type 0 where
+  pub seat : GoesOn requests before.seat after.seat
+  pub desk : DeskGoesOn requests before.desk after.desk
 
-ClerkGoesOn-same : (before after : ClerkState) → after ≡ before → ClerkGoesOn before after
+ClerkGoesOn-same : (before after : ClerkState) → after ≡ before → ClerkGoesOn 0 before after
 ClerkGoesOn-same before after is = record {
   seat = GoesOn-same before.seat after.seat (ap (λ (k : ClerkState). k.seat) is);
   desk = DeskGoesOn-same before.desk after.desk (ap (λ (k : ClerkState). k.desk.list) is)
       (ap (λ (k : ClerkState). k.desk.notes) is);
 }
 
-ClerkGoesOn-more : (a b c : ClerkState) → ClerkGoesOn a b → ClerkGoesOn b c → ClerkGoesOn a c
-ClerkGoesOn-more a b c first second = record {
-  seat = GoesOn-more a.seat b.seat c.seat first.seat second.seat;
-  desk = DeskGoesOn-more a.desk b.desk c.desk first.desk second.desk;
+ClerkGoesOn-more : (m n : ℕ) (a b c : ClerkState) → ClerkGoesOn m a b → ClerkGoesOn n b c → ClerkGoesOn (m + n) a c
+ClerkGoesOn-more m n a b c first second = record {
+  seat = GoesOn-more m n a.seat b.seat c.seat first.seat second.seat;
+  desk = DeskGoesOn-more m n a.desk b.desk c.desk first.desk second.desk;
 }
 
 -- a receipt files the touch, or it is a repeat's
 filed : {N : Type 0} {g : Ghosts N} (touch : Touch) (before after : SeatState) (receipt : Receipt N g)
-    → Files touch before after receipt → GoesOn before after
+    → Files touch before after receipt → GoesOn 1 before after
 filed touch before after receipt files = by_fresh receipt.fresh refl
   where
-    by_fresh : (fresh : Bool) → receipt.fresh ≡ fresh → GoesOn before after
+    by_fresh : (fresh : Bool) → receipt.fresh ≡ fresh → GoesOn 1 before after
     by_fresh true new = record {
       number = files.number;
       later = filed_of receipt ∷ [];
       receipts = files.fresh new;
+      few = omega arith;
     }
     by_fresh false again = record {
       number = files.number;
       later = [];
       receipts = files.repeat again ∙ sym (append-nil before.receipts);
+      few = omega arith;
     }
 
 -- the reply of a receipt stands beside its touch in the note that the desk learns
@@ -126,8 +162,16 @@ IsReplied-by opened touch before after receipt note answer files told list learn
       is = is;
     }
 
+-- a request may leave the seat as it was, and the desk
+kept : (before after : SeatState) → after ≡ before → GoesOn 1 before after
+kept before after is = GoesOn-within 0 1 before after (omega arith) (GoesOn-same before after is)
+
+desk_kept : (before after : Known) → after.list ≡ before.list → after.notes ≡ before.notes → DeskGoesOn 1 before after
+desk_kept before after list notes =
+    DeskGoesOn-within 0 1 before after (omega arith) (DeskGoesOn-same before after list notes)
+
 pub given-goes_on : (opened : Opened) (before after : ClerkState) (request : Request) (answer : Answer)
-    → HasGiven opened before after request answer → ClerkGoesOn before after
+    → HasGiven opened before after request answer → ClerkGoesOn 1 before after
 given-goes_on opened before after (requests.Touch touch) answer given =
     elim given [
       | inl is ↦ record {
@@ -136,39 +180,52 @@ given-goes_on opened before after (requests.Touch touch) answer given =
           list = subst (λ (l : List Entry). IsPrefix before.desk.list l) (sym is.list) (prefix_self before.desk.list);
           newer = is.note ∷ [];
           notes = is.learnt;
+          few = omega arith;
         };
       }
       | inr is ↦ record {
-        seat = GoesOn-same before.seat after.seat is.kept;
-        desk = DeskGoesOn-same before.desk after.desk (ap (λ (k : Known). k.list) is.desk)
+        seat = kept before.seat after.seat is.kept;
+        desk = desk_kept before.desk after.desk (ap (λ (k : Known). k.list) is.desk)
             (ap (λ (k : Known). k.notes) is.desk);
       }
     ]
 given-goes_on opened before after (requests.Enquire card) answer given =
     elim given [
       | inl is ↦ record {
-        seat = GoesOn-same before.seat after.seat is.kept;
-        desk = record { list = is.list; newer = []; notes = is.notes };
+        seat = kept before.seat after.seat is.kept;
+        desk = record { list = is.list; newer = []; notes = is.notes; few = omega arith };
       }
       | inr is ↦ record {
-        seat = GoesOn-same before.seat after.seat is.kept;
-        desk = DeskGoesOn-same before.desk after.desk is.list is.notes;
+        seat = kept before.seat after.seat is.kept;
+        desk = desk_kept before.desk after.desk is.list is.notes;
       }
     ]
 
 -- so it does over a run of a clerk each of whose answers has it go on
 pub run-goes_on : {C : Type 0} (gives : C → Request → Answer → C → Type 0) (state_of : C → ClerkState)
     → ((x y : C) (request : Request) (answer : Answer) → gives x request answer y
-    → ClerkGoesOn (state_of x) (state_of y))
+    → ClerkGoesOn 1 (state_of x) (state_of y))
     → (old new : C) (handed : List Request) (replies : List Answer) → IsRun gives old handed replies new
-    → ClerkGoesOn (state_of old) (state_of new)
+    → ClerkGoesOn (length handed) (state_of old) (state_of new)
 run-goes_on gives state_of each old new [] [] run =
     ClerkGoesOn-same (state_of old) (state_of new) (ap state_of run)
 run-goes_on gives state_of each old new (request ∷ handed) (answer ∷ replies) run =
-    ClerkGoesOn-more (state_of old) (state_of run.0) (state_of new) (each old run.0 request answer run.1)
-    (run-goes_on gives state_of each run.0 new handed replies run.2)
+    let long : 1 + length handed ≡ length (request ∷ handed) = omega arith in
+    subst (λ (n : ℕ). ClerkGoesOn n (state_of old) (state_of new)) long
+    (ClerkGoesOn-more 1 (length handed) (state_of old) (state_of run.0) (state_of new)
+    (each old run.0 request answer run.1) (run-goes_on gives state_of each run.0 new handed replies run.2))
 run-goes_on gives state_of each old new [] (answer ∷ replies) run = absurd run
 run-goes_on gives state_of each old new (request ∷ handed) [] run = absurd run
+
+-- and so it does over a session, by as many requests as were counted
+pub session-goes_on : {C : Type 0} (gives : C → Request → Answer → C → Type 0) (state_of : C → ClerkState)
+    → ((x y : C) (request : Request) (answer : Answer) → gives x request answer y
+    → ClerkGoesOn 1 (state_of x) (state_of y))
+    → (old new : C) (turns : ℕ) (served : Served) (bytes text : List ℕ)
+    → IsSession gives old new turns served bytes text → ClerkGoesOn served.requests (state_of old) (state_of new)
+session-goes_on gives state_of each old new turns served bytes text session =
+    subst (λ (n : ℕ). ClerkGoesOn n (state_of old) (state_of new)) (sym session.requests)
+    (run-goes_on gives state_of each old new session.exchange.handed session.exchange.replies session.is.run)
 
 -- what each answer keeps, the run keeps
 pub run-keeps : {C X : Type 0} (gives : C → Request → Answer → C → Type 0) (name_of : C → X)

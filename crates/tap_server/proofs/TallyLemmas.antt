@@ -1,15 +1,17 @@
 -- A tally grows by one session, and by the next.
-use Rattle.std.proofs.Common.{◌≡◌, ℕ, ◌+◌, ◌≤◌, ◌<◌, true, false, cond, ◌==◌, List, length, slice_index, slice_set, refl, ap, ◌∙◌, inl, inr, arith}
+use Rattle.std.proofs.Common.{◌≡◌, ℕ, ◌+◌, ◌≤◌, ◌<◌, true, false, cond, ◌==◌, List, [], ◌∷◌, ◌++◌, length, slice_index, slice_set, refl, ap, ◌∙◌, inl, inr, arith}
 use Rattle.std.specs.List.{sum_by}
 use Rattle.std.proofs.lemmas.Bool.{cases_eq}
 use Rattle.std.proofs.lemmas.Bool.Decides.{nat_tests}
 use Rattle.std.proofs.lemmas.List.{get_or-set_same, get_or-set_other}
-use Rattle.std.proofs.lemmas.List.Sums.{sum_by-set}
+use Rattle.std.proofs.lemmas.List.{length-append}
+use Rattle.std.proofs.lemmas.List.Sums.{sum_by-set, sum_by_push}
 use Rattle.gate_session.specs.declared.session.End.{End}
 use Rattle.gate_session.specs.declared.session.End.TheVariants.{Closed, CutFrame, BadFrame, ReadFault, WriteFault, Turns, Memory}
 use Rattle.gate_session.specs.Session.{HasCounted}
 use Rattle.tap_server.specs.declared.tally.Tally.{Tally}
-use Rattle.tap_server.specs.Tally.{place_of, ended, all_ended, HasGrown, IsBelow, IsEmpty}
+use Rattle.gate_session.specs.declared.session.Served.{Served}
+use Rattle.tap_server.specs.Tally.{place_of, ended, all_ended, has_ended, HasCountedIn, HasGrown, IsBelow, IsEmpty}
 
 -- one more at the place that was counted
 abbrev one_at : ℕ → ℕ → ℕ
@@ -113,6 +115,16 @@ HasGrown-more count old between new first last = record {
   least = omega (arith, first.least, last.least);
 }
 
+pub HasGrown-within : (count most : ℕ) (old new : Tally) → count ≤ most → HasGrown count old new → HasGrown most old new
+HasGrown-within count most old new within grown = record {
+  few = omega (arith, within, grown.few);
+  rises = grown.rises;
+  ends = grown.ends;
+  each = grown.each;
+  most = grown.most;
+  least = grown.least;
+}
+
 -- counts below one bound are below a larger one
 pub IsBelow-more : (least most : ℕ) (tally : Tally) → least ≤ most → IsBelow least tally → IsBelow most tally
 IsBelow-more least most tally more below = record {
@@ -129,4 +141,48 @@ IsBelow-empty most tally empty = record {
   requests = omega (arith, empty.requests);
   answers = omega (arith, empty.answers);
   ends = λ place other within. let count = empty.ends place other within in omega (arith, count);
+}
+
+-- ---- sessions
+
+-- a session that was counted
+pub HasCountedIn-one : (session : Served) (old new : Tally) → length old.ends ≡ 7
+    → new.ends ≡ slice_set old.ends (place_of session.end) (slice_index old.ends (place_of session.end) + 1)
+    → new.connections ≡ old.connections + 1 → new.requests ≡ old.requests + session.requests
+    → new.answers ≡ old.answers + session.answers → HasCountedIn (session ∷ []) old new
+HasCountedIn-one session old new size ends c r a =
+    let within : place_of session.end < length old.ends = omega (arith, within_ends session.end, size) in
+    record {
+      connections = c;
+      requests = r ∙ ap (λ (n : ℕ). old.requests + n) (alone session.requests);
+      answers = a ∙ ap (λ (n : ℕ). old.answers + n) (alone session.answers);
+      ends = λ end. ap (λ (l : List ℕ). slice_index l (place_of end)) ends
+          ∙ raised old.ends (place_of session.end) (place_of end) within
+          ∙ ap (λ (n : ℕ). ended old end + n) (alone (one_at (place_of session.end) (place_of end)));
+    }
+  where
+    alone : (n : ℕ) → n ≡ 0 + n
+    alone n = omega arith
+
+pub HasCountedIn-none : (tally : Tally) → HasCountedIn [] tally tally
+HasCountedIn-none tally = record {
+  connections = omega arith;
+  requests = omega arith;
+  answers = omega arith;
+  ends = λ end. omega arith;
+}
+
+-- one session after others
+pub HasCountedIn-more : (sessions : List Served) (session : Served) (old between new : Tally)
+    → HasCountedIn sessions old between → HasCountedIn (session ∷ []) between new → HasCountedIn (sessions ++ session ∷ []) old new
+HasCountedIn-more sessions session old between new first last = record {
+  connections = omega (arith, first.connections, last.connections, length-append sessions (session ∷ []));
+  requests = omega (arith, first.requests, last.requests, sum_by_push (λ (s : Served). s.requests) sessions session);
+  answers = omega (arith, first.answers, last.answers, sum_by_push (λ (s : Served). s.answers) sessions session);
+  ends = λ end. omega (
+    arith,
+    first.ends end,
+    last.ends end,
+    sum_by_push (λ (s : Served). cond (has_ended end s) 1 0) sessions session,
+  );
 }

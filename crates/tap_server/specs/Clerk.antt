@@ -29,17 +29,21 @@ pub record ClerkState : Type 0 where
 abbrev pub clerk_at : SeatState → Known → ClerkState
 clerk_at seat desk = record { seat = seat; desk = desk }
 
--- a seat goes on: its number is the same, and its earlier receipts come first
-pub record GoesOn (before after : SeatState) : Type 0 where
+-- a seat goes on over so many requests: its number is the same, its earlier receipts come first,
+-- and no request filed more than one behind them
+pub record GoesOn (requests : ℕ) (before after : SeatState) : Type 0 where
   pub number : after.number ≡ before.number
   pub later : List Filed
   pub receipts : after.receipts ≡ before.receipts ++ later
+  pub few : length later ≤ requests
 
--- a desk goes on: its list begins with the one before, and the notes before are still there
-pub record DeskGoesOn (before after : Known) : Type 0 where
+-- a desk goes on over so many requests: its list begins with the one before, the notes before are
+-- still there, and by no request it learnt more than one
+pub record DeskGoesOn (requests : ℕ) (before after : Known) : Type 0 where
   pub list : IsPrefix before.list after.list
   pub newer : List (List Entry)
   pub notes : after.notes ≡ newer ++ before.notes
+  pub few : length newer ≤ requests
 
 -- a touch is answered by the reply that stands beside it, under its gate and number, in the note
 -- that the desk learnt; the note is legal, begins with what the opening found, is as long as the
@@ -55,7 +59,7 @@ pub record IsReplied (opened : Opened) (before after : ClerkState) (touch : Touc
   pub stands : slice_get note place ≡ Some (record { touch = touch; reply = reply; seat = seat })
   pub seen : after.seat.seen ≡ length note
   pub not_below : before.seat.seen ≤ after.seat.seen
-  pub goes_on : GoesOn before.seat after.seat
+  pub goes_on : GoesOn 1 before.seat after.seat
   pub learnt : after.desk.notes ≡ note ∷ before.desk.notes
   pub list : after.desk.list ≡ before.desk.list
   pub is : answer ≡ answers.Reply touch.gate touch.number reply

@@ -1,5 +1,5 @@
 -- What `serve` writes on standard output (docs/OPERATING.md, "The report"; this project's choice).
-use Rattle.std.specs.Prelude.{ℕ, Bool, List, ◌++◌, codes, if◌then◌else◌}
+use Rattle.std.specs.Prelude.{ℕ, ◌+◌, Bool, List, [], ◌∷◌, ◌++◌, codes, if◌then◌else◌}
 use Rattle.std.specs.Fmt.{decimal}
 use Rattle.tap_server.specs.declared.tally.Tally.{Tally}
 
@@ -22,3 +22,12 @@ tally_line line tally =
 -- how many entries the history has; an office whose disk failed is halted
 abbrev pub end_line : Bool → ℕ → List ℕ
 end_line halted entries = told (if halted then codes "halted " else codes "closed ") entries (codes "\n")
+
+-- the lines of these gate lines, one behind the other, with their numbers from this one on
+abbrev pub tally_lines : ℕ → List Tally → List ℕ
+tally_lines line [] = []
+tally_lines line (tally ∷ tallies) = tally_line line tally ++ tally_lines (line + 1) tallies
+
+-- all that is told at the end: each gate line, counted from 1, and then the history
+abbrev pub report_text : List Tally → Bool → ℕ → List ℕ
+report_text tallies halted entries = tally_lines 1 tallies ++ end_line halted entries

@@ -1,9 +1,10 @@
 -- How a line's tally grows by its sessions (docs/OPERATING.md, "The report"; this project's choice).
-use Rattle.std.specs.Prelude.{◌≡◌, ℕ, ◌+◌, ◌≤◌, sum_by, slice_index}
+use Rattle.std.specs.Prelude.{◌≡◌, ◌==◌, ℕ, ◌+◌, ◌≤◌, Bool, List, length, sum_by, count_by, slice_index}
 use Rattle.std.specs.List.{All}
 use Rattle.gate_session.specs.declared.session.End.{End}
 use Rattle.gate_session.specs.declared.session.End.TheVariants.{Closed, CutFrame, BadFrame}
 use Rattle.gate_session.specs.declared.session.End.TheVariants.{ReadFault, WriteFault, Turns, Memory}
+use Rattle.gate_session.specs.declared.session.Served.{Served}
 use Rattle.tap_server.specs.declared.tally.Tally.{Tally}
 
 -- the ends are counted in this order
@@ -49,3 +50,19 @@ pub record HasGrown (connections : ℕ) (old new : Tally) : Type 0 where
       ≤ old.answers + (new.requests + ended new BadFrame)
   pub least : old.answers + (new.requests + ended new BadFrame) + ended old WriteFault
       ≤ new.answers + (old.requests + ended old BadFrame) + ended new WriteFault
+
+-- a session ended so
+abbrev pub has_ended : End → Served → Bool
+has_ended end session = place_of end == place_of session.end
+
+-- how many requests were handed over in these sessions
+abbrev pub requests_of : List Served → ℕ
+requests_of sessions = sum_by (λ session. session.requests) sessions
+
+-- these sessions were counted: there are as many connections more, and as many more requests,
+-- answers and ends of each kind as they had together
+pub record HasCountedIn (sessions : List Served) (old new : Tally) : Type 0 where
+  pub connections : new.connections ≡ old.connections + length sessions
+  pub requests : new.requests ≡ old.requests + requests_of sessions
+  pub answers : new.answers ≡ old.answers + sum_by (λ session. session.answers) sessions
+  pub ends : (end : End) → ended new end ≡ ended old end + count_by (has_ended end) sessions

@@ -1,5 +1,8 @@
 //! A gate line: over it gates connect, one after the other.
 
+ghost use Rattle.std.specs.Prelude.{ℕ, Option, None, is_some, if◌then◌else◌};
+ghost use Rattle.tap_server.specs.Post.{HasGivenMore};
+
 use std::io::{Read, Write};
 use std::net::{TcpListener, TcpStream};
 use std::time::Duration;
@@ -9,14 +12,19 @@ const ATTEMPTS: u32 = 1_000;
 
 /// A line over which gates connect, one after the other.
 pub(crate) trait GateLine {
+    // How many connections it gave so far. A line that doesn't say is `None`.
+    ghost given: { Self → Option ℕ } = { λ _. None };
+
     /// What a connection's requests come from.
-    type R: Read + Drop + Send + Sync;
+    type R: Read + Drop + Send;
 
     /// What a connection's answers go to.
-    type W: Write + Drop + Send + Sync;
+    type W: Write + Drop + Send;
 
     /// The next connection. It waits for a gate. `None` ends the line.
-    fn connect(&mut self) -> Option<(Self::R, Self::W)>;
+    fn connect(&mut self) -> Option<(Self::R, Self::W)>
+        ensures { HasGivenMore (given self.old) (given self.new)
+            (if is_some result then 1 else 0) };
 }
 
 /// A line over TCP. All lines of a server take their connections from one listener.

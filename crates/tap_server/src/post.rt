@@ -53,16 +53,17 @@ pub(crate) fn serve_all<
     connections: u32,
     turns: u32,
 )
-    requires some { 0 < length posts.old }
     requires connections { IsWithin 1_000_000 connections }
     requires turns { IsWithin 1_000_000 turns }
     requires below { All (λ post. IsBelow (2 ^ 62) post.tally) posts.old }
     ensures { (place : ℕ) (other : _) → place < length posts.old → HasServed connections
+        (L.given (slice_index_or posts.old place other).line)
+        (L.given (slice_index_or posts.new place other).line)
         (slice_index_or posts.old place other).tally (slice_index_or posts.new place other).tally
         (slice_index_or posts.old place other).seat (slice_index_or posts.new place other).seat
         (slice_index_or posts.old place other).desk (slice_index_or posts.new place other).desk }
 {
-    let threads = posts.len();
+    let threads = posts.len().max(1);
     thread::for_each_mut(
         rt,
         posts,
@@ -72,7 +73,8 @@ pub(crate) fn serve_all<
             requires connections { connections ≤ 1_000_000 }
             requires turns { turns ≤ 1_000_000 }
             requires below { IsBelow (2 ^ 62) post.now.tally }
-            ensures { HasServed connections post.entry.now.tally post.exit.now.tally
+            ensures { HasServed connections (L.given post.entry.now.line)
+                (L.given post.exit.now.line) post.entry.now.tally post.exit.now.tally
                 post.entry.now.seat post.exit.now.seat post.entry.now.desk post.exit.now.desk }
         { serve_post(rt, alloc, office, post, connections, turns) },
     );
@@ -90,8 +92,8 @@ fn serve_post<L: GateLine, N: Named, D: Disk, R: Wait>(
     requires connections { connections ≤ 1_000_000 }
     requires turns { turns ≤ 1_000_000 }
     requires below { IsBelow (2 ^ 62) post.old.tally }
-    ensures { HasServed connections post.old.tally post.new.tally post.old.seat post.new.seat
-        post.old.desk post.new.desk }
+    ensures { HasServed connections (L.given post.old.line) (L.given post.new.line)
+        post.old.tally post.new.tally post.old.seat post.new.seat post.old.desk post.new.desk }
 {
     let Post {
         line,
@@ -128,8 +130,8 @@ fn serve_connection<I: Read, O: Write, N: Named, D: Disk, R: Wait>(
     writer: &mut O,
     turns: u32,
 ) -> Served
-    ensures seat { GoesOn seat.old seat.new }
-    ensures desk { DeskGoesOn desk.old desk.new }
+    ensures seat { GoesOn result.requests seat.old seat.new }
+    ensures desk { DeskGoesOn result.requests desk.old desk.new }
     ensures counts { HasCounted result.end result.requests result.answers }
     ensures few { result.requests ≤ 512 * turns }
 {
@@ -148,8 +150,8 @@ fn serve_clerk<I: Read, O: Write, N: Named, D: Disk, R: Wait>(
 ) -> Served
     ensures same_seat { clerk.new.seat.ghost_name ≡ clerk.old.seat.ghost_name }
     ensures same_desk { clerk.new.desk.ghost_name ≡ clerk.old.desk.ghost_name }
-    ensures seat { GoesOn clerk.old.seat.now clerk.new.seat.now }
-    ensures desk { DeskGoesOn clerk.old.desk.now clerk.new.desk.now }
+    ensures seat { GoesOn result.requests clerk.old.seat.now clerk.new.seat.now }
+    ensures desk { DeskGoesOn result.requests clerk.old.desk.now clerk.new.desk.now }
     ensures counts { HasCounted result.end result.requests result.answers }
     ensures few { result.requests ≤ 512 * turns }
 {

@@ -1,37 +1,72 @@
-//! What `serve` writes on standard output (docs/OPERATING.md, "The report").
+//! What `serve` writes on standard output (docs/OPERATING.md, "The report"). It takes no memory.
 
-ghost use Rattle.std.specs.Prelude.{◌≡◌, string_bytes, IfOk};
-ghost use Rattle.tap_server.specs.Report.{opened_line, tally_line, end_line};
+ghost use Rattle.std.specs.Prelude.{◌≡◌, OnOk};
+ghost use Rattle.std.specs.Io.KnownBytes.{Appends};
+ghost use Rattle.tap_server.specs.Report.{opened_line, tally_line, tally_lines, end_line, report_text};
 
 use crate::tally::Tally;
-use std::alloc::{AllocError, Global};
+use std::io;
+use std::io::Write;
 
-/// The first line: how many touches were found in the journal.
-pub fn opened_line(alloc: Global, opened: u32) -> Result<String, AllocError>
-    ensures { IfOk result (λ text. string_bytes text ≡ opened_line opened) }
+/// Writes the first line: how many touches were found in the journal.
+pub fn write_opened<W: Write>(writer: &mut W, opened: u32) -> io::Result<()>
+    ensures { OnOk result (Appends (W.contents writer.old) (W.contents writer.new)
+        (opened_line opened)) }
 {
-    format!(in alloc; "opened {opened}\n")
+    write!(writer, "opened {opened}\n")?;
+    writer.flush()
 }
 
-/// The line of a gate line, whose numbers count from 1.
-pub fn tally_line(alloc: Global, line: u32, tally: &Tally) -> Result<String, AllocError>
-    ensures { IfOk result (λ text. string_bytes text ≡ tally_line line tally.now) }
+/// Writes the lines behind it: each gate line's, in their order, and the last.
+pub fn write_report<W: Write>(
+    writer: &mut W,
+    tallies: &[Tally],
+    halted: bool,
+    entries: u32,
+) -> io::Result<()>
+    ensures { OnOk result (Appends (W.contents writer.old) (W.contents writer.new)
+        (report_text tallies.now halted entries)) }
+{
+    write_tallies(writer, tallies)?;
+    write_end(writer, halted, entries)?;
+    writer.flush()
+}
+
+/// Writes the lines of the gate lines, whose numbers count from 1.
+fn write_tallies<W: Write>(writer: &mut W, tallies: &[Tally]) -> io::Result<()>
+    ensures { OnOk result (Appends (W.contents writer.old) (W.contents writer.new)
+        (tally_lines 1 tallies.now)) }
+{
+    let mut line: usize = 0;
+    for tally in tallies {
+        line += 1;
+        write_tally(writer, line, tally)?;
+    }
+    Ok(())
+}
+
+/// Writes the line of a gate line.
+fn write_tally<W: Write>(writer: &mut W, line: usize, tally: &Tally) -> io::Result<()>
+    ensures { OnOk result (Appends (W.contents writer.old) (W.contents writer.new)
+        (tally_line line tally.now)) }
 {
     let connections = tally.connections;
     let requests = tally.requests;
     let answers = tally.answers;
-    format!(in alloc;
+    write!(
+        writer,
         "line {line} connections {connections} requests {requests} answers {answers}\n"
     )
 }
 
-/// The last line: how many entries the history has, and whether the journal's disk failed.
-pub fn end_line(alloc: Global, halted: bool, entries: u32) -> Result<String, AllocError>
-    ensures { IfOk result (λ text. string_bytes text ≡ end_line halted entries) }
+/// Writes the last line: how many entries the history has, and whether the journal's disk failed.
+fn write_end<W: Write>(writer: &mut W, halted: bool, entries: u32) -> io::Result<()>
+    ensures { OnOk result (Appends (W.contents writer.old) (W.contents writer.new)
+        (end_line halted entries)) }
 {
     if halted {
-        format!(in alloc; "halted {entries}\n")
+        write!(writer, "halted {entries}\n")
     } else {
-        format!(in alloc; "closed {entries}\n")
+        write!(writer, "closed {entries}\n")
     }
 }

@@ -1,6 +1,6 @@
 //! The command `serve`: the office of a journal, served to gates over TCP.
 
-ghost use Rattle.std.specs.Prelude.{◌≡◌, ◌≤◌, ◌^◌, length, IfOk};
+ghost use Rattle.std.specs.Prelude.{◌≡◌, ◌≤◌, ◌^◌, [], length, map, reverse, vec_capacity, IfOk};
 ghost use Rattle.std.specs.List.{All};
 ghost use Rattle.tap_office.specs.Name.{IsNameOf};
 ghost use Rattle.tap_office.specs.Opening.{opened_of};
@@ -10,15 +10,15 @@ ghost use Rattle.tap_server.specs.Tally.{IsBelow};
 use crate::fault::CommandFault;
 use crate::gate_line::{GateLine, TcpLine};
 use crate::post::{Post, serve_all};
-use crate::report::{end_line, opened_line, tally_line};
+use crate::report::{write_opened, write_report};
 use crate::tally::Tally;
 use command_line::Serve;
 use fare_table::Fares;
-use gate_session::write_text;
 use line_replay::RunFault;
 use std::alloc::{AllocError, Global};
 use std::fs::File;
 use std::io;
+use std::io::{BufWriter, Write};
 use std::marker::Brand;
 use std::net::{Net, TcpListener, TcpStream};
 use std::process::ExitCode;
@@ -53,15 +53,7 @@ pub(crate) fn serve_gates<
         Ok(opening) => opening,
         Err(fault) => return Err(fault.cause.into()),
     };
-    let listener = TcpListener::bind(rt, asked.listen).map_err(|_| CommandFault::Listen)?;
-    let address = listener.local_addr().map_err(|_| CommandFault::Listen)?;
-    if rt
-        .eprintln(format!(in rt.alloc(); "listening {address}")?)
-        .is_err()
-    {
-        return Err(RunFault::Write.into());
-    }
-    serve_opening::<Brand, FileDisk, R>(rt, opening, &listener, asked)
+    serve_opening::<Brand, FileDisk, R>(rt, opening, asked)
 }
 
 /// The disk of the journal's file, with a journal of no touches where the file is empty.
@@ -83,17 +75,18 @@ fn journal_disk<R: AllocGlobal + Files<File = File>>(
     }
 }
 
-/// Serves the office of an opening, by its name, and closes it.
+/// Makes the office of an opening, by its name, listens, and serves it.
 fn serve_opening<
     N: Named + Send + Sync,
     D: Disk + Drop + Send,
-    R: AllocGlobal + Threads + Wait + Sync + Print,
->(
-    rt: &R,
-    opening: Opening<D>,
-    listener: &TcpListener,
-    asked: &Serve<'_>,
-) -> Result<ExitCode, CommandFault>
+    R: AllocGlobal
+        + Net<Listener = TcpListener, Stream = TcpStream>
+        + Threads
+        + Wait
+        + Sync
+        + Print
+        + Eprint,
+>(rt: &R, opening: Opening<D>, asked: &Serve<'_>) -> Result<ExitCode, CommandFault>
     requires name { IsNameOf N.opened N.name N.parts N.story N.table (opened_of opening) }
     requires allowed { IsServeAllowed asked.now }
 {
@@ -102,31 +95,64 @@ fn serve_opening<
         Ok(made) => made,
         Err(fault) => return Err(fault.cause.into()),
     };
-    let mut posts = make_posts(alloc, listener, asked.idle, seats, desks)?;
-    tell(rt, opened_line(alloc, office.opened())?.as_str())?;
-    serve_posts(rt, alloc, &office, &mut posts, asked.connections);
-    let report = report_of(alloc, posts.as_slice())?;
-    match office.close(rt, take_seats(alloc, posts)?) {
-        Ok(closed) => finish(rt, report, &closed),
-        Err(fault) => Err(fault.cause.into()),
-    }
+    let listener = TcpListener::bind(rt, asked.listen).map_err(|_| CommandFault::Listen)?;
+    let posts = make_posts(alloc, &listener, asked.idle, seats, desks)?;
+    let listening = listening_line(alloc, &listener)?;
+    let mut output = output_of(alloc, io::writer(rt))?;
+    serve_office(
+        rt,
+        office,
+        posts,
+        &listening,
+        &mut output,
+        asked.connections,
+    )
 }
 
-/// Serves all posts that there are.
-pub(crate) fn serve_posts<
-    L: GateLine + Send,
+/// The line that tells where gates can connect.
+fn listening_line(alloc: Global, listener: &TcpListener) -> Result<String, CommandFault> {
+    let address = listener.local_addr().map_err(|_| CommandFault::Listen)?;
+    Ok(format!(in alloc; "listening {address}")?)
+}
+
+/// A writer to standard output that has its memory already.
+fn output_of<W: Write + Drop>(alloc: Global, writer: W) -> Result<BufWriter<W>, RunFault> {
+    BufWriter::new(alloc, writer).map_err(|_| RunFault::Memory)
+}
+
+/// Serves an office's posts, closes it, and writes the report. From the first connection on it
+/// takes no memory of its own. The status is 1 where the journal's disk has failed.
+///
+/// Standard error may be closed: the line that tells of the listening is lost then.
+fn serve_office<
+    L: GateLine + Drop + Send,
     N: Named + Send + Sync,
     D: Disk + Drop + Send,
-    R: Threads + Wait + Sync,
->(rt: &R, alloc: Global, office: &Office<N, D>, posts: &mut Vec<Post<L, N>>, connections: u32)
+    W: Write,
+    R: AllocGlobal + Threads + Wait + Sync + Eprint,
+>(
+    rt: &R,
+    office: Office<N, D>,
+    posts: Vec<Post<L, N>>,
+    listening: &str,
+    output: &mut W,
+    connections: u32,
+) -> Result<ExitCode, CommandFault>
     requires connections { IsWithin 1_000_000 connections }
-    requires below { All (λ post. IsBelow (2 ^ 62) post.tally) posts.old.items }
+    requires below { All (λ post. IsBelow (2 ^ 62) post.tally) posts.items }
 {
-    let posts = posts.as_mut_slice();
-    if posts.is_empty() {
-        return;
+    let alloc = rt.alloc();
+    let mut posts = posts;
+    let seats = Vec::with_capacity(alloc, posts.len())?;
+    let tallies = Vec::with_capacity(alloc, posts.len())?;
+    let _ = rt.eprintln(listening);
+    write_opened(output, office.opened()).map_err(|_| RunFault::Write)?;
+    serve_all(rt, alloc, &office, posts.as_mut_slice(), connections, TURNS);
+    let tallies = tallies_of(posts.as_slice(), tallies);
+    match office.close(rt, seats_of(posts, seats)) {
+        Ok(closed) => finish(output, tallies.as_slice(), &closed),
+        Err(fault) => Err(fault.cause.into()),
     }
-    serve_all(rt, alloc, office, posts, connections, TURNS);
 }
 
 /// The posts of a server: a line for each seat, with its desk.
@@ -159,49 +185,47 @@ pub(crate) fn new_post<L, N: Named>(line: L, seat: Seat<N>, desk: Desk<N>) -> Po
     }
 }
 
-/// The lines of the report that tell each line's tally.
-fn report_of<L, N: Named>(alloc: Global, posts: &[Post<L, N>]) -> Result<String, AllocError> {
-    let mut report = String::new(alloc);
-    let mut line: u32 = 0;
+/// What the posts' lines came to, in the place that is ready for it.
+pub(crate) fn tallies_of<L, N: Named>(posts: &[Post<L, N>], ready: Vec<Tally>) -> Vec<Tally>
+    requires empty { ready.items ≡ [] }
+    requires room { length posts.now ≤ vec_capacity ready }
+    ensures { result.items ≡ map (λ post. post.tally) posts.now }
+{
+    let mut tallies = ready;
     for post in posts {
-        line = line.saturating_add(1);
-        report.push_str(tally_line(alloc, line, &post.tally)?.as_str())?;
+        tallies.push_reserved(post.tally);
     }
-    Ok(report)
+    tallies
 }
 
-/// The seats of the posts, in their order.
-pub(crate) fn take_seats<L: Drop, N: Named>(
-    alloc: Global,
+/// The posts' seats, in the place that is ready for them, the last post's first.
+pub(crate) fn seats_of<L: Drop, N: Named>(
     posts: Vec<Post<L, N>>,
-) -> Result<Vec<Seat<N>>, AllocError> {
-    let mut seats = Vec::with_capacity(alloc, posts.len())?;
-    for post in posts {
+    ready: Vec<Seat<N>>,
+) -> Vec<Seat<N>>
+    requires empty { ready.items ≡ [] }
+    requires room { length posts.items ≤ vec_capacity ready }
+    ensures { result.items ≡ map (λ post. post.seat) (reverse posts.items) }
+{
+    let mut posts = posts;
+    let mut seats = ready;
+    while let Some(post) = posts.pop() {
         let Post { seat, .. } = post;
-        seats.push(seat)?;
+        seats.push_reserved(seat);
     }
-    Ok(seats)
+    seats
 }
 
 /// Writes the report, and answers the status: 1 where the journal's disk has failed.
-fn finish<D, R: AllocGlobal + Print>(
-    rt: &R,
-    report: String,
+fn finish<D, W: Write>(
+    output: &mut W,
+    tallies: &[Tally],
     closed: &Closed<D>,
 ) -> Result<ExitCode, CommandFault> {
-    tell(rt, report.as_str())?;
-    let last = end_line(rt.alloc(), closed.halted, closed.book.len())?;
-    tell(rt, last.as_str())?;
+    write_report(output, tallies, closed.halted, closed.book.len()).map_err(|_| RunFault::Write)?;
     if closed.halted {
         Ok(ExitCode::from(1))
     } else {
         Ok(ExitCode::SUCCESS)
     }
-}
-
-/// Writes a text to standard output.
-fn tell<R: Print>(rt: &R, text: &str) -> Result<(), RunFault> {
-    let mut writer = io::writer(rt);
-    write_text(&mut writer, text.as_bytes())?;
-    Ok(())
 }

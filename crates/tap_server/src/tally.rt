@@ -1,9 +1,9 @@
 //! What a line's sessions came to: how many there were, what was asked and answered in them, and how
 //! they ended.
 
-ghost use Rattle.std.specs.Prelude.{◌≡◌, ◌<◌, ◌+◌, ◌^◌, ℕ};
+ghost use Rattle.std.specs.Prelude.{◌≡◌, ◌<◌, ◌+◌, ◌^◌, ◌∷◌, [], ℕ};
 ghost use Rattle.gate_session.specs.Session.{HasCounted};
-ghost use Rattle.tap_server.specs.Tally.{IsBelow, IsEmpty, HasGrown, place_of};
+ghost use Rattle.tap_server.specs.Tally.{HasCountedIn, HasGrown, IsBelow, IsEmpty, place_of};
 
 use gate_session::{End, Served};
 
@@ -38,6 +38,7 @@ impl Tally {
         requires below { IsBelow (2 ^ 63) self.old }
         requires requests { served.now.requests < 2 ^ 62 }
         requires counted { HasCounted served.now.end served.now.requests served.now.answers }
+        ensures counted { HasCountedIn (served.now ∷ []) self.old self.new }
         ensures grown { HasGrown 1 self.old self.new }
         ensures below { (most : ℕ) → IsBelow most self.old
             → IsBelow (most + served.now.requests + 1) self.new }

@@ -3,57 +3,56 @@ mod fakes;
 mod report;
 mod scripts;
 mod serve;
+mod sessions;
 
 use crate::fault::CommandFault;
 use fare_table::{EXAMPLE_TABLE, Fares, TableFault};
 use line_replay::RunFault;
 use std::alloc::Global;
-use std::test::Fail;
-use tap_journal::JournalFault;
-use tap_office::CloseCause;
+use std::process::Abort;
+use tap_disk::{Choice, MemoryDisk};
+use tap_journal::{Journal, JournalFault};
+use tap_office::{CloseCause, Opening};
 
-/// The example table.
-fn example(alloc: Global) -> Result<Fares, Fail> {
-    Ok(
-        Fares::read(alloc, EXAMPLE_TABLE)
-            .ok()
-            .ok_or("the example table is valid")?,
-    )
+/// A disk in memory with a new journal of a table, for so many touches of 10 cards.
+fn new_disk(alloc: Global, digest: &[u8; 32], capacity: u32) -> Option<MemoryDisk> {
+    let disk = MemoryDisk::new(alloc).ok()?;
+    let journal = Journal::create(disk, capacity, 10, digest).ok()?;
+    journal.close().crash(Choice::New).ok()
+}
+
+/// The opening of a new journal for so many touches, by the example table.
+fn new_opening(alloc: Global, capacity: u32, seats: u16) -> Option<Opening<MemoryDisk>> {
+    let fares = Fares::read(alloc, EXAMPLE_TABLE).ok()?;
+    let disk = new_disk(alloc, &fares.digest(), capacity)?;
+    Opening::read(alloc, disk, fares, 10, seats).ok()
+}
+
+/// The fault is told in this line.
+fn assert_told<R: AllocGlobal + Abort>(rt: &R, fault: CommandFault, line: &str) {
+    let told = fault.to_string(rt.alloc()).ok().expect(rt, "memory");
+    assert_eq!(rt; told.as_str(), line);
 }
 
 #[test]
-fn a_fault_is_told_in_one_line(rt: HostRuntime) -> Result<(), Fail> {
-    let alloc = rt.alloc();
-    for (fault, told) in [
-        (RunFault::Memory, "fault run 1 Memory"),
-        (RunFault::Read, "fault run 2 Read"),
-        (RunFault::Write, "fault run 3 Write"),
-        (RunFault::BadLine(7), "fault run 4 BadLine 7"),
-    ] {
-        assert_eq!(rt; fault.to_string(alloc)?.as_str(), told);
-        let passed_on = CommandFault::Run(fault);
-        assert_eq!(rt; passed_on.to_string(alloc)?.as_str(), told);
-    }
-    assert_eq!(rt; CommandFault::File.to_string(alloc)?.as_str(), "fault file");
-    let refused = CommandFault::from(TableFault::MissingSingle(1, 3));
-    let told = "fault table 8 MissingSingle 1 3";
-    assert_eq!(rt; refused.to_string(alloc)?.as_str(), told);
-    for (fault, told) in [
-        (JournalFault::WrongTable, "fault journal 5 WrongTable"),
-        (JournalFault::Damaged(0), "fault journal 7 Damaged 0"),
-    ] {
-        assert_eq!(rt; CommandFault::from(fault).to_string(alloc)?.as_str(), told);
-    }
-    assert_eq!(rt;
-        CommandFault::Listen.to_string(alloc)?.as_str(),
-        "fault listen"
-    );
-    let missing = CommandFault::from(CloseCause::SeatMissing);
-    assert_eq!(rt;
-        missing.to_string(alloc)?.as_str(),
-        "fault close 1 SeatMissing"
-    );
-    let no_memory = CommandFault::from(TableFault::Memory);
-    assert_eq!(rt; no_memory.to_string(alloc)?.as_str(), "fault run 1 Memory");
-    Ok(())
+fn a_fault_is_told_in_one_line(rt: HostRuntime) {
+    assert_told(&rt, RunFault::Memory.into(), "fault run 1 Memory");
+    assert_told(&rt, RunFault::Read.into(), "fault run 2 Read");
+    assert_told(&rt, RunFault::Write.into(), "fault run 3 Write");
+    assert_told(&rt, RunFault::BadLine(7).into(), "fault run 4 BadLine 7");
+    assert_told(&rt, CommandFault::File, "fault file");
+    assert_told(&rt, CommandFault::Listen, "fault listen");
+}
+
+#[test]
+fn a_fault_of_a_part_is_told_as_the_commands(rt: HostRuntime) {
+    let missing = TableFault::MissingSingle(1, 3);
+    assert_told(&rt, missing.into(), "fault table 8 MissingSingle 1 3");
+    assert_told(&rt, TableFault::Memory.into(), "fault run 1 Memory");
+    let wrong = JournalFault::WrongTable;
+    assert_told(&rt, wrong.into(), "fault journal 5 WrongTable");
+    let damaged = JournalFault::Damaged(0);
+    assert_told(&rt, damaged.into(), "fault journal 7 Damaged 0");
+    let seats = CloseCause::SeatMissing;
+    assert_told(&rt, seats.into(), "fault close 1 SeatMissing");
 }

@@ -1,9 +1,10 @@
 //! Gates that send what a script says, and listen for what it wants.
 
 use crate::gate_line::GateLine;
-use std::io;
 use std::io::{ErrorKind, Read, Write};
 use std::sync::atomic::{AtomicU64, Ordering};
+use std::time::{Clock, Duration};
+use std::{io, thread};
 
 /// A frame that a gate sends, or that it is answered.
 #[derive(Clone, Copy)]
@@ -20,12 +21,16 @@ pub enum Frame {
     /// It is asked for: 2000 pence, outside, behind two touches.
     Ask,
     Holding,
-    /// Card 2 is issued by gate 8.
-    IssueOther,
-    IssuedOther,
-    /// It is asked for. Either card may hold nothing, outside, behind two touches.
-    AskOther,
-    Empty,
+    /// Card 1 is issued by gate 1, and topped up by one pound.
+    FirstIssue,
+    FirstIssued,
+    FirstTopUp,
+    FirstToppedUp,
+    /// Card 2 is issued by gate 2, and topped up by one pound.
+    SecondIssue,
+    SecondIssued,
+    SecondTopUp,
+    SecondToppedUp,
     /// A frame of kind 04 with the length of a frame of kind 01.
     Bad,
     BadFrame,
@@ -48,12 +53,22 @@ impl Frame {
             Frame::Full => b"\x00\x08\xff\x05\x00\x07\x00\x00\x00\x03",
             Frame::Ask => b"\x00\x05\x05\x00\x00\x00\x01",
             Frame::Holding => b"\x00\x0e\x85\x01\x00\x00\x00\x00\x00\x00\x07\xd0\x00\x00\x00\x02",
-            Frame::IssueOther =>
-                b"\x00\x0f\x04\x00\x08\x00\x00\x00\x01\x00\x00\x00\x02\x67\x7b\x8b\x28",
-            Frame::IssuedOther =>
-                b"\x00\x14\x81\x00\x08\x00\x00\x00\x01\x08\x00\x00\x00\x00\x00\x00\x00\x00\x00\x00\x00\x00",
-            Frame::AskOther => b"\x00\x05\x05\x00\x00\x00\x02",
-            Frame::Empty => b"\x00\x0e\x85\x01\x00\x00\x00\x00\x00\x00\x00\x00\x00\x00\x00\x02",
+            Frame::FirstIssue =>
+                b"\x00\x0f\x04\x00\x01\x00\x00\x00\x01\x00\x00\x00\x01\x67\x7b\x8b\x28",
+            Frame::FirstIssued =>
+                b"\x00\x14\x81\x00\x01\x00\x00\x00\x01\x08\x00\x00\x00\x00\x00\x00\x00\x00\x00\x00\x00\x00",
+            Frame::FirstTopUp =>
+                b"\x00\x13\x03\x00\x01\x00\x00\x00\x02\x00\x00\x00\x01\x00\x00\x00\x64\x67\x7b\x8c\x54",
+            Frame::FirstToppedUp =>
+                b"\x00\x14\x81\x00\x01\x00\x00\x00\x02\x07\x00\x00\x00\x64\x00\x00\x00\x00\x00\x00\x00\x64",
+            Frame::SecondIssue =>
+                b"\x00\x0f\x04\x00\x02\x00\x00\x00\x01\x00\x00\x00\x02\x67\x7b\x8b\x28",
+            Frame::SecondIssued =>
+                b"\x00\x14\x81\x00\x02\x00\x00\x00\x01\x08\x00\x00\x00\x00\x00\x00\x00\x00\x00\x00\x00\x00",
+            Frame::SecondTopUp =>
+                b"\x00\x13\x03\x00\x02\x00\x00\x00\x02\x00\x00\x00\x02\x00\x00\x00\x64\x67\x7b\x8c\x54",
+            Frame::SecondToppedUp =>
+                b"\x00\x14\x81\x00\x02\x00\x00\x00\x02\x07\x00\x00\x00\x64\x00\x00\x00\x00\x00\x00\x00\x64",
             Frame::Bad =>
                 b"\x00\x11\x04\x00\x07\x00\x00\x00\x01\x00\x00\x00\x01\x67\x7b\x8b\x28\x00\x00",
             Frame::BadFrame => b"\x00\x08\xff\x01\x00\x00\x00\x00\x00\x00",
@@ -76,8 +91,8 @@ fn frames(given: &[Frame]) -> Frames {
     ]
 }
 
-/// How often a gate looks whether the others were answered before it gives up.
-const PATIENCE: u32 = 2_000_000_000;
+/// How often a gate looks whether the others were answered before it gives up, a millisecond apart.
+const PATIENCE: u32 = 10_000;
 
 /// One connection: what its gate sends, a read each, and what it has to be answered.
 #[derive(Clone, Copy)]
@@ -117,7 +132,9 @@ pub struct Heard {
 
 /// A line, whose connections are those of all that are its own.
 #[derive(Drop)]
-pub struct ScriptLine<'a> {
+pub struct ScriptLine<'a, R> {
+    /// The clock by which a gate waits.
+    pub clock: &'a R,
     pub line: usize,
     pub scripts: &'a [Script],
     /// How many of them lie behind.
@@ -127,7 +144,8 @@ pub struct ScriptLine<'a> {
 
 /// A gate that sends.
 #[derive(Drop)]
-pub struct Sender<'a> {
+pub struct Sender<'a, R> {
+    clock: &'a R,
     script: &'a Script,
     next: usize,
     heard: &'a Heard,
@@ -141,19 +159,19 @@ pub struct Listener<'a> {
     heard: &'a Heard,
 }
 
-impl<'a> GateLine for ScriptLine<'a> {
-    type R = Sender<'a>;
+impl<'a, R: Clock + Sync> GateLine for ScriptLine<'a, R> {
+    type R = Sender<'a, R>;
 
     type W = Listener<'a>;
 
-    fn connect(&mut self) -> Option<(Sender<'a>, Listener<'a>)> {
+    fn connect(&mut self) -> Option<(Sender<'a, R>, Listener<'a>)> {
         let scripts = self.scripts;
         let mut place: usize = 0;
         for script in scripts {
             place = place.saturating_add(1);
             if place > self.next && script.line == self.line {
                 self.next = place;
-                return Some(connection(script, self.heard));
+                return Some(connection(self.clock, script, self.heard));
             }
         }
         None
@@ -161,8 +179,13 @@ impl<'a> GateLine for ScriptLine<'a> {
 }
 
 /// Both ends of a connection.
-fn connection<'a>(script: &'a Script, heard: &'a Heard) -> (Sender<'a>, Listener<'a>) {
+fn connection<'a, R>(
+    clock: &'a R,
+    script: &'a Script,
+    heard: &'a Heard,
+) -> (Sender<'a, R>, Listener<'a>) {
     let sender = Sender {
+        clock,
         script,
         next: 0,
         heard,
@@ -176,18 +199,19 @@ fn connection<'a>(script: &'a Script, heard: &'a Heard) -> (Sender<'a>, Listener
 }
 
 /// Whether so many bytes are heard on all lines, at last.
-fn are_heard(heard: &Heard, bytes: u64) -> bool {
+fn are_heard<R: Clock>(clock: &R, heard: &Heard, bytes: u64) -> bool {
     for _ in 0..PATIENCE {
         if heard.bytes.load(Ordering::Relaxed) >= bytes {
             return true;
         }
+        thread::sleep(clock, Duration::from_millis(1));
     }
     false
 }
 
-impl Read for Sender<'_> {
+impl<R: Clock> Read for Sender<'_, R> {
     fn read(&mut self, buf: &mut [u8]) -> io::Result<usize> {
-        if self.next == 1 && !are_heard(self.heard, self.script.after) {
+        if self.next == 1 && !are_heard(self.clock, self.heard, self.script.after) {
             return Err(io::Error::from(ErrorKind::Other));
         }
         let Some(Some(frame)) = self.script.sends.get(self.next) else {

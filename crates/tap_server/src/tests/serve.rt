@@ -8,32 +8,32 @@ ghost use Rattle.tap_server.specs.Tally.{IsBelow};
 
 use super::scripts::{Frame, Heard, Script, ScriptLine, whole};
 use super::*;
-use crate::post::Post;
-use crate::server::{new_post, serve_posts, take_seats};
+use crate::post::{Post, serve_all};
+use crate::server::{new_post, seats_of, tallies_of};
 use crate::tally::Tally;
 use std::alloc::AllocError;
 use std::marker::Brand;
-use std::process::Abort;
 use std::sync::Wait;
 use std::sync::atomic::{AtomicU64, Ordering};
+use std::test::Fail;
 use std::thread::Threads;
-use tap_disk::{Choice, MemoryDisk};
-use tap_journal::Journal;
-use tap_office::{Desk, Named, Opening, Seat};
+use std::time::Clock;
+use tap_office::{Desk, Named, Seat};
 
 /// The posts of a server: a line for each seat.
-fn posts_of<'a, N: Named>(
-    alloc: Global,
+fn posts_of<'a, N: Named, R: AllocGlobal>(
+    clock: &'a R,
     scripts: &'a [Script],
     heard: &'a Heard,
     seats: Vec<Seat<N>>,
     desks: Vec<Desk<N>>,
-) -> Result<Vec<Post<ScriptLine<'a>, N>>, AllocError>
+) -> Result<Vec<Post<ScriptLine<'a, R>, N>>, AllocError>
     ensures { IfOk result (λ posts. All (λ post. IsBelow (2 ^ 62) post.tally) posts.items) }
 {
-    let mut posts = Vec::new(alloc);
+    let mut posts = Vec::new(clock.alloc());
     for (seat, desk) in seats.into_iter().zip(desks) {
         let line = ScriptLine {
+            clock,
             line: posts.len(),
             scripts,
             next: 0,
@@ -46,53 +46,44 @@ fn posts_of<'a, N: Named>(
 
 /// Serves these connections from an office, closes it, and tells each line's tally and how many
 /// entries the history has.
-fn serve_lines<'a, N: Named + Send + Sync, R: Threads + Wait + Sync>(
-    rt: &R,
-    alloc: Global,
+fn serve_lines<'a, N: Named + Send + Sync, R: AllocGlobal + Clock + Threads + Wait + Sync>(
+    rt: &'a R,
     opening: Opening<MemoryDisk>,
     scripts: &'a [Script],
     heard: &'a Heard,
 ) -> Result<(Vec<Tally>, u32), Fail>
     requires { IsNameOf N.opened N.name N.parts N.story N.table (opened_of opening) }
 {
+    let alloc = rt.alloc();
     let (office, seats, desks) = opening
         .office::<N, R>(rt, alloc)
         .ok()
         .ok_or("no office was made")?;
-    let mut posts = posts_of(alloc, scripts, heard, seats, desks)?;
-    serve_posts(rt, alloc, &office, &mut posts, 10);
-    let mut tallies = Vec::new(alloc);
-    for post in posts.as_slice() {
-        tallies.push(post.tally)?;
-    }
+    let mut posts = posts_of(rt, scripts, heard, seats, desks)?;
+    let seats = Vec::with_capacity(alloc, posts.len())?;
+    let tallies = Vec::with_capacity(alloc, posts.len())?;
+    serve_all(rt, alloc, &office, posts.as_mut_slice(), 10, 1_000_000);
+    let tallies = tallies_of(posts.as_slice(), tallies);
     let closed = office
-        .close(rt, take_seats(alloc, posts)?)
+        .close(rt, seats_of(posts, seats))
         .ok()
         .ok_or("the office wasn't closed")?;
     Ok((tallies, closed.book.len()))
 }
 
-/// Serves these connections over so many lines, from a new journal with room for two touches.
-fn served<R: AllocGlobal + Threads + Wait + Sync + Abort>(
+/// Serves these connections over so many lines, from a new journal with room for so many touches.
+fn served<R: AllocGlobal + Clock + Threads + Wait + Sync + Abort>(
     rt: &R,
     lines: u16,
+    capacity: u32,
     scripts: &[Script],
 ) -> Result<(Vec<Tally>, u32), Fail> {
-    let alloc = rt.alloc();
     let heard = Heard {
         bytes: AtomicU64::new(0),
         wrong: AtomicU64::new(0),
     };
-    let fares = example(alloc)?;
-    let disk = MemoryDisk::new(alloc)?;
-    let journal = Journal::create(disk, 2, 10, &fares.digest())
-        .ok()
-        .ok_or("no journal was made")?;
-    let disk = journal.close().crash(Choice::New)?;
-    let opening = Opening::read(alloc, disk, fares, 10, lines)
-        .ok()
-        .ok_or("the disk wasn't opened")?;
-    let told = serve_lines::<Brand, R>(rt, alloc, opening, scripts, &heard)?;
+    let opening = new_opening(rt.alloc(), capacity, lines).expect(rt, "the disk wasn't opened");
+    let told = serve_lines::<Brand, R>(rt, opening, scripts, &heard)?;
     assert_eq!(rt; heard.wrong.load(Ordering::Relaxed), 0);
     Ok(told)
 }
@@ -120,7 +111,7 @@ fn each_connection_of_each_line_is_served_and_counted_by_its_end(
             ..whole(1, &[], &[])
         },
     ];
-    let (tallies, entries) = served(&rt, 2, &scripts)?;
+    let (tallies, entries) = served(&rt, 2, 2, &scripts)?;
     let first = Tally {
         connections: 2,
         requests: 4,
@@ -157,7 +148,7 @@ fn a_full_history_goes_on_to_answer(rt: HostRuntime) -> Result<(), Fail> {
             Frame::Holding,
         ],
     );
-    let (tallies, entries) = served(&rt, 1, &[full])?;
+    let (tallies, entries) = served(&rt, 1, 2, &[full])?;
     let tally = Tally {
         connections: 1,
         requests: 5,
@@ -171,26 +162,26 @@ fn a_full_history_goes_on_to_answer(rt: HostRuntime) -> Result<(), Fail> {
 
 #[test]
 fn two_lines_are_served_at_once(rt: HostRuntime) -> Result<(), Fail> {
-    // each gate asks behind the first answers of both
+    // each gate tops its card up behind the first answers of both
     let scripts = [
         Script {
             after: 44,
             ..whole(
                 0,
-                &[Frame::Issue, Frame::Ask],
-                &[Frame::Issued, Frame::Empty],
+                &[Frame::FirstIssue, Frame::FirstTopUp],
+                &[Frame::FirstIssued, Frame::FirstToppedUp],
             )
         },
         Script {
             after: 44,
             ..whole(
                 1,
-                &[Frame::IssueOther, Frame::AskOther],
-                &[Frame::IssuedOther, Frame::Empty],
+                &[Frame::SecondIssue, Frame::SecondTopUp],
+                &[Frame::SecondIssued, Frame::SecondToppedUp],
             )
         },
     ];
-    let (tallies, entries) = served(&rt, 2, &scripts)?;
+    let (tallies, entries) = served(&rt, 2, 4, &scripts)?;
     let tally = Tally {
         connections: 1,
         requests: 2,
@@ -198,6 +189,6 @@ fn two_lines_are_served_at_once(rt: HostRuntime) -> Result<(), Fail> {
         ends: [1, 0, 0, 0, 0, 0, 0],
     };
     assert_eq!(rt; tallies.as_slice(), [tally, tally].as_slice());
-    assert_eq!(rt; entries, 2);
+    assert_eq!(rt; entries, 4);
     Ok(())
 }

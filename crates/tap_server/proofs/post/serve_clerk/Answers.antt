@@ -1,5 +1,5 @@
 use Rattle.tap_server.specs.Clerk.{clerk_at}
-use Rattle.tap_server.proofs.PostLemmas.{given-goes_on, run-goes_on, run-keeps, requests_few}
+use Rattle.tap_server.proofs.PostLemmas.{given-goes_on, session-goes_on, run-keeps, requests_few}
 use Rattle.tap_server.proofs.post.serve_clerk.Goals as goal
 
 -- each answer keeps the seat, and so does the session
@@ -19,20 +19,18 @@ returns-clause-same_desk g c =
 -- each answer has the seat go on, and so has the session
 pub returns-clause-seat : goal.returns-clause-seat
 returns-clause-seat g c =
-    let session = c.serve.ensures.session.says in
-    (run-goes_on _ (λ clerk. clerk_at clerk.seat.now clerk.desk.now)
+    (session-goes_on _ (λ clerk. clerk_at clerk.seat.now clerk.desk.now)
     (λ x y request answer given. given-goes_on g.N.Named.opened (clerk_at x.seat.now x.desk.now)
-    (clerk_at y.seat.now y.desk.now) request answer given.2) _ _ session.exchange.handed session.exchange.replies
-    session.is.run).seat
+    (clerk_at y.seat.now y.desk.now) request answer given.2) _ _ c.args.turns c.serve.result _ _
+    c.serve.ensures.session.says).seat
 
 -- and the desk
 pub returns-clause-desk : goal.returns-clause-desk
 returns-clause-desk g c =
-    let session = c.serve.ensures.session.says in
-    (run-goes_on _ (λ clerk. clerk_at clerk.seat.now clerk.desk.now)
+    (session-goes_on _ (λ clerk. clerk_at clerk.seat.now clerk.desk.now)
     (λ x y request answer given. given-goes_on g.N.Named.opened (clerk_at x.seat.now x.desk.now)
-    (clerk_at y.seat.now y.desk.now) request answer given.2) _ _ session.exchange.handed session.exchange.replies
-    session.is.run).desk
+    (clerk_at y.seat.now y.desk.now) request answer given.2) _ _ c.args.turns c.serve.result _ _
+    c.serve.ensures.session.says).desk
 
 pub returns-clause-few : goal.returns-clause-few
 returns-clause-few g c = requests_few _ _ _ c.args.turns c.serve.result _ _ c.serve.ensures.session.says
