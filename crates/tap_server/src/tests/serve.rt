@@ -8,6 +8,7 @@ ghost use Rattle.tap_server.specs.Tally.{IsBelow};
 
 use super::scripts::{Frame, Heard, Script, ScriptLine, whole};
 use super::*;
+use crate::gate_line::GateLine;
 use crate::post::{Post, serve_all};
 use crate::server::{new_post, seats_of, tallies_of};
 use crate::tally::Tally;
@@ -18,7 +19,7 @@ use std::sync::atomic::{AtomicU64, Ordering};
 use std::test::Fail;
 use std::thread::Threads;
 use std::time::Clock;
-use tap_office::{Desk, Named, Seat};
+use tap_office::{Desk, Named, Office, Seat};
 
 /// The posts of a server: a line for each seat.
 fn posts_of<'a, N: Named, R: AllocGlobal>(
@@ -44,22 +45,17 @@ fn posts_of<'a, N: Named, R: AllocGlobal>(
     Ok(posts)
 }
 
-/// Serves these connections from an office, closes it, and tells each line's tally and how many
-/// entries the history has.
-fn serve_lines<'a, N: Named + Send + Sync, R: AllocGlobal + Clock + Threads + Wait + Sync>(
-    rt: &'a R,
-    opening: Opening<MemoryDisk>,
-    scripts: &'a [Script],
-    heard: &'a Heard,
-) -> Result<(Vec<Tally>, u32), Fail>
-    requires { IsNameOf N.opened N.name N.parts N.story N.table (opened_of opening) }
+/// Serves an office's posts, closes it, and tells each line's tally and how many entries the
+/// history has.
+fn serve_posts<
+    L: GateLine + Drop + Send,
+    N: Named + Send + Sync,
+    R: AllocGlobal + Threads + Wait + Sync,
+>(rt: &R, office: Office<N, MemoryDisk>, posts: Vec<Post<L, N>>) -> Result<(Vec<Tally>, u32), Fail>
+    requires { All (λ post. IsBelow (2 ^ 62) post.tally) posts.items }
 {
     let alloc = rt.alloc();
-    let (office, seats, desks) = opening
-        .office::<N, R>(rt, alloc)
-        .ok()
-        .ok_or("no office was made")?;
-    let mut posts = posts_of(rt, scripts, heard, seats, desks)?;
+    let mut posts = posts;
     let seats = Vec::with_capacity(alloc, posts.len())?;
     let tallies = Vec::with_capacity(alloc, posts.len())?;
     serve_all(rt, alloc, &office, posts.as_mut_slice(), 10, 1_000_000);
@@ -69,6 +65,23 @@ fn serve_lines<'a, N: Named + Send + Sync, R: AllocGlobal + Clock + Threads + Wa
         .ok()
         .ok_or("the office wasn't closed")?;
     Ok((tallies, closed.book.len()))
+}
+
+/// Serves these connections from the office of an opening.
+fn serve_lines<'a, N: Named + Send + Sync, R: AllocGlobal + Clock + Threads + Wait + Sync>(
+    rt: &'a R,
+    opening: Opening<MemoryDisk>,
+    scripts: &'a [Script],
+    heard: &'a Heard,
+) -> Result<(Vec<Tally>, u32), Fail>
+    requires { IsNameOf N.opened N.name N.parts N.story N.table (opened_of opening) }
+{
+    let (office, seats, desks) = opening
+        .office::<N, R>(rt, rt.alloc())
+        .ok()
+        .ok_or("no office was made")?;
+    let posts = posts_of(rt, scripts, heard, seats, desks)?;
+    serve_posts(rt, office, posts)
 }
 
 /// Serves these connections over so many lines, from a new journal with room for so many touches.
