@@ -3,6 +3,7 @@ use Rattle.std.specs.Prelude.{◌≤◌, ℕ, IfSome}
 use Rattle.command_line.specs.declared.arguments.Arguments.{Arguments}
 use Rattle.command_line.specs.declared.arguments.Arguments.TheVariants as asked
 use Rattle.command_line.specs.declared.arguments.Serve.{Serve}
+use Rattle.command_line.specs.declared.arguments.Migrate.{Migrate}
 
 -- the number is from 1 to this limit
 abbrev pub IsWithin : ℕ → ℕ → Type 0
@@ -20,6 +21,7 @@ pub record IsServeAllowed (serve : Serve) : Type 0 where
 
 -- so it is of each command
 abbrev pub IsAllowed : Arguments → Type 0
-IsAllowed (asked.Replay table cards) = IsWithin 100_000 cards
+IsAllowed (asked.Replay table cards revisions) = IsWithin 100_000 cards
 IsAllowed (asked.Check table) = Unit {0}
 IsAllowed (asked.Serve serve) = IsServeAllowed serve
+IsAllowed (asked.Migrate migrate) = IsWithin 100_000 migrate.cards

@@ -4,11 +4,12 @@ ghost use Rattle.std.specs.Prelude.{◌≡◌, IfOk, IfSome};
 ghost use Rattle.clap.specs.Values.{kind_of};
 ghost use Rattle.clap.specs.declared.error.kind.ErrorKind.TheVariants.{InvalidValue};
 ghost use Rattle.command_line.specs.Arguments.{IsAllowed, IsServeAllowed, IsWithin};
+ghost use Rattle.command_line.specs.declared.arguments.TheConstants.{CONNECTIONS_LIMIT};
 
 use crate::commands::command;
 use clap::error::ErrorKind;
 use clap::{ArgMatches, Error};
-use std::alloc::Global;
+use std::alloc::{AllocError, Global};
 
 /// The most cards that a station has.
 pub const CARDS_LIMIT: u32 = 100_000;
@@ -18,26 +19,37 @@ pub const CAPACITY_LIMIT: u32 = 1_000_000;
 pub const LINES_LIMIT: u32 = 64;
 /// The most connections of a line.
 pub const CONNECTIONS_LIMIT: u32 = 1_000_000;
-/// The most seconds for which a silent gate is waited for.
+/// The most seconds that a connection may be silent before it is ended.
 pub const IDLE_LIMIT: u32 = 1_000_000;
 
-/// What the program is asked to do.
-#[derive(Clone, Copy, Debug, PartialEq, Eq)]
+/// What the program is asked to do. Revisions are the paths of further fare tables, in the order in
+/// which they were written.
+#[derive(Debug, PartialEq, Eq, Drop)]
 pub enum Arguments<'a> {
     /// Answer the request lines of standard input, by the fare table in the file of this path or
-    /// the example table, with this many cards.
-    Replay { table: Option<&'a str>, cards: u32 },
+    /// the example table and by revisions, with this many cards.
+    Replay {
+        table: Option<&'a str>,
+        cards: u32,
+        revisions: Vec<&'a str>,
+    },
     /// Check the fare table in the file of this path.
-    Check { table: &'a str },
+    Check {
+        table: &'a str,
+    },
     /// Serve gates.
     Serve(Serve<'a>),
+    /// Carry a journal of the first format over to a new file.
+    Migrate(Migrate<'a>),
 }
 
 /// What a server is asked for.
-#[derive(Clone, Copy, Debug, PartialEq, Eq)]
+#[derive(Debug, PartialEq, Eq, Drop)]
 pub struct Serve<'a> {
-    /// The path of the fare table.
+    /// The path of the first fare table.
     pub table: &'a str,
+    /// The paths of further fare tables, in the order in which they were written.
+    pub revisions: Vec<&'a str>,
     /// The path of the journal.
     pub journal: &'a str,
     /// How many cards there are.
@@ -50,8 +62,21 @@ pub struct Serve<'a> {
     pub lines: u32,
     /// How many connections each line serves, one after the other.
     pub connections: u32,
-    /// After how many seconds a silent gate is given up, where it is.
+    /// After how many seconds without a byte a connection is ended, where it is ended so.
     pub idle: Option<u32>,
+}
+
+/// What the carrying over of a journal is asked for.
+#[derive(Clone, Copy, Debug, PartialEq, Eq)]
+pub struct Migrate<'a> {
+    /// The path of the fare table by which the journal was made.
+    pub table: &'a str,
+    /// The path of the old journal.
+    pub from: &'a str,
+    /// The path of the new one.
+    pub to: &'a str,
+    /// With how many cards the journal was made.
+    pub cards: u32,
 }
 
 /// What stands for a number that has a sign.
@@ -62,15 +87,15 @@ const NOT_UTF8: &str = "invalid UTF-8 was detected in one or more arguments";
 
 /// What the words of a command line ask for; the program's own name is the first of them.
 ///
-/// The error says that help was asked for, or what is wrong: no command or an unknown one, a number
-/// that isn't within its limits or isn't written in decimal digits, or no file. Its text and its
-/// status are `clap`'s.
+/// The error says that help or the version was asked for, or what is wrong: no command or an
+/// unknown one, a number that isn't within its limits or isn't written in decimal digits, or no
+/// file. Its text and its status are `clap`'s.
 pub fn arguments_of<'a>(alloc: Global, words: &'a [&'a str]) -> Result<Arguments<'a>, Error>
     ensures { IfOk result IsAllowed }
 {
     let mut command = command(alloc)?;
     let matches = command.try_get_matches_from_mut(words)?;
-    match asked(&matches) {
+    match asked(alloc, &matches)? {
         Some(asked) => Ok(asked),
         None => Err(command.error(ErrorKind::InvalidValue, NOT_DECIMAL)?),
     }
@@ -84,35 +109,59 @@ pub fn refuse_bytes(alloc: Global) -> Result<Error, Error>
 }
 
 /// What the matches ask for. `None` where a number isn't written in decimal digits.
-fn asked<'a>(matches: &ArgMatches<'a>) -> Option<Arguments<'a>>
-    ensures { IfSome result IsAllowed }
+fn asked<'a>(alloc: Global, matches: &ArgMatches<'a>) -> Result<Option<Arguments<'a>>, AllocError>
+    ensures { IfOk result (λ asked. IfSome asked IsAllowed) }
 {
-    match matches.subcommand()? {
-        ("replay", inner) => replay_asked(inner),
-        ("check", inner) => {
-            let table = inner.get_str("table")?;
-            Some(Arguments::Check { table })
+    Ok(match matches.subcommand() {
+        Some(("replay", inner)) => {
+            let revisions = revisions_asked(alloc, inner)?;
+            replay_asked(inner, revisions)
         }
-        ("serve", inner) => {
-            let serve = serve_asked(inner)?;
-            Some(Arguments::Serve(serve))
+        Some(("check", inner)) => check_asked(inner),
+        Some(("serve", inner)) => {
+            let revisions = revisions_asked(alloc, inner)?;
+            serve_asked(inner, revisions)
         }
+        Some(("migrate", inner)) => migrate_asked(inner),
         _ => None,
+    })
+}
+
+/// The paths of further fare tables that the matches of a command name.
+fn revisions_asked<'a>(
+    alloc: Global,
+    matches: &ArgMatches<'a>,
+) -> Result<Vec<&'a str>, AllocError> {
+    match matches.get_strs("revisions") {
+        Some(paths) => paths.to_vec(alloc),
+        None => Ok(Vec::new(alloc)),
     }
 }
 
+/// The check that the matches of its command ask for.
+fn check_asked<'a>(matches: &ArgMatches<'a>) -> Option<Arguments<'a>>
+    ensures { IfSome result IsAllowed }
+{
+    let table = matches.get_str("table")?;
+    Some(Arguments::Check { table })
+}
+
 /// The replay that the matches of its command ask for.
-fn replay_asked<'a>(matches: &ArgMatches<'a>) -> Option<Arguments<'a>>
+fn replay_asked<'a>(matches: &ArgMatches<'a>, revisions: Vec<&'a str>) -> Option<Arguments<'a>>
     ensures { IfSome result IsAllowed }
 {
     let table = matches.get_str("table");
     let cards = number_asked(matches, "cards", CARDS_LIMIT)?;
-    Some(Arguments::Replay { table, cards })
+    Some(Arguments::Replay {
+        table,
+        cards,
+        revisions,
+    })
 }
 
 /// The server that the matches of its command ask for.
-fn serve_asked<'a>(matches: &ArgMatches<'a>) -> Option<Serve<'a>>
-    ensures { IfSome result IsServeAllowed }
+fn serve_asked<'a>(matches: &ArgMatches<'a>, revisions: Vec<&'a str>) -> Option<Arguments<'a>>
+    ensures { IfSome result IsAllowed }
 {
     let table = matches.get_str("table")?;
     let journal = matches.get_str("journal")?;
@@ -120,13 +169,14 @@ fn serve_asked<'a>(matches: &ArgMatches<'a>) -> Option<Serve<'a>>
     let cards = number_asked(matches, "cards", CARDS_LIMIT)?;
     let capacity = number_asked(matches, "capacity", CAPACITY_LIMIT)?;
     let lines = number_asked(matches, "lines", LINES_LIMIT)?;
-    let connections = number_asked(matches, "connections", CONNECTIONS_LIMIT)?;
+    let connections = connections_asked(matches)?;
     let idle = match matches.get_str("idle") {
         Some(_) => Some(number_asked(matches, "idle", IDLE_LIMIT)?),
         None => None,
     };
-    Some(Serve {
+    Some(Arguments::Serve(Serve {
         table,
+        revisions,
         journal,
         cards,
         capacity,
@@ -134,7 +184,34 @@ fn serve_asked<'a>(matches: &ArgMatches<'a>) -> Option<Serve<'a>>
         lines,
         connections,
         idle,
-    })
+    }))
+}
+
+/// How many connections each line of a server is to serve: as many as may be where none is named.
+/// `None` where the number that is named isn't one of them.
+fn connections_asked(matches: &ArgMatches<'_>) -> Option<u32>
+    ensures { IfSome result (IsWithin CONNECTIONS_LIMIT) }
+{
+    match matches.get_str("connections") {
+        Some(_) => number_asked(matches, "connections", CONNECTIONS_LIMIT),
+        None => Some(CONNECTIONS_LIMIT),
+    }
+}
+
+/// The carrying over of a journal that the matches of its command ask for.
+fn migrate_asked<'a>(matches: &ArgMatches<'a>) -> Option<Arguments<'a>>
+    ensures { IfSome result IsAllowed }
+{
+    let table = matches.get_str("table")?;
+    let from = matches.get_str("from")?;
+    let to = matches.get_str("to")?;
+    let cards = number_asked(matches, "cards", CARDS_LIMIT)?;
+    Some(Arguments::Migrate(Migrate {
+        table,
+        from,
+        to,
+        cards,
+    }))
 }
 
 /// The number that an option has. `None` where it isn't from 1 to this limit, or isn't written in

@@ -4,6 +4,14 @@ use crate::arguments::{CAPACITY_LIMIT, CARDS_LIMIT, CONNECTIONS_LIMIT, IDLE_LIMI
 use clap::{Arg, ArgAction, Command, Error};
 use std::alloc::{AllocError, Global};
 
+/// The program's name in its help, whatever file it is started from.
+const NAME: &str = "bovtrila";
+
+/// What stands behind the name for `--version`: the program's version, and below it the line of the
+/// toolchain that proved it, as `rt version` prints it.
+const VERSION: &str = "1.0.0
+proved by rattle-kit-13b logic dac8208d650f15bf";
+
 /// What the program does.
 const ABOUT: &str = "Answers the touches of Oyster pay as you go";
 
@@ -12,7 +20,7 @@ const CHECK_ABOUT: &str = "Says whether a file is a valid fare table, or what is
 
 /// How `check` is called, and how it ends.
 const CHECK_EXAMPLE: &str = "Example:
-  tap_server check --table fares.toml
+  bovtrila check --table fares.toml
 
 Statuses: 0 the table is valid, 1 it is refused or a fault came, 2 a wrong command line";
 
@@ -22,20 +30,45 @@ const REPLAY_ABOUT: &str =
 
 /// How `replay` is called, and how it ends.
 const REPLAY_EXAMPLE: &str = "Example, an issue of card 1:
-  echo 000f0400070000000100000001677b8b28 | tap_server replay --cards 10
+  echo 000f0400070000000100000001677b8b28 | bovtrila replay --cards 10
 
-Statuses: 0 all lines are answered, 1 a fault (standard error has its line), 2 a wrong command line";
+Example, with a further table to which touches may revise fares:
+  bovtrila replay --cards 10 --table fares.toml fares-2026.toml < lines
+
+Statuses: 0 all lines are answered, 1 a fault (standard error has its line),
+2 a wrong command line";
 
 /// What `serve` does.
 const SERVE_ABOUT: &str = "Serves gates over TCP, and keeps each touch in a journal";
 
+/// What a server needs and may be given, in two lines: the one that `clap` writes is too long.
+const SERVE_USAGE: &str =
+    "bovtrila serve [OPTIONS] --table <FILE> --journal <FILE> --listen <ADDR> --cards <N>
+         --capacity <N> --lines <N> [REVISION]...";
+
 /// How `serve` is called, and how it ends.
 const SERVE_EXAMPLE: &str = "Example, a station of 8 gates:
-  tap_server serve --table fares.toml --journal station.journal --cards 1000 \\
-    --capacity 1000000 --listen 127.0.0.1:4014 --lines 8 --connections 1000000
+  bovtrila serve --table fares.toml --journal station.journal --cards 1000 \\
+    --capacity 1000000 --listen 127.0.0.1:4014 --lines 8
+
+Further tables are the last words. At each start they have to be all that the journal names:
+  bovtrila serve --table fares.toml --journal station.journal --cards 1000 \\
+    --capacity 1000000 --listen 127.0.0.1:4014 --lines 8 fares-2026.toml
 
 Statuses: 0 all lines are done and the journal is closed, 1 a fault or a failed disk (standard
 error has the fault's line), 2 a wrong command line";
+
+/// What `migrate` does.
+const MIGRATE_ABOUT: &str = "Carries a journal of the first format over to a new file";
+
+/// How `migrate` is called, and how it ends.
+const MIGRATE_EXAMPLE: &str = "Example:
+  bovtrila migrate --table fares.toml --from station.journal --to new.journal --cards 1000
+
+The old journal is read alone, and stays as it is.
+
+Statuses: 0 the new journal is whole, 1 a fault (standard error has its line),
+2 a wrong command line";
 
 /// An option whose value is a text.
 struct TextOption {
@@ -56,6 +89,37 @@ const TABLE: TextOption = TextOption {
     name: "table",
     value: "FILE",
     help: "The file of the fare table, in TOML",
+};
+
+/// The files of further fare tables.
+const REVISIONS_HELP: &str =
+    "Files of further fare tables, for the touches that revise fares to one of them";
+
+/// The texts that the carrying over of a journal needs.
+const MIGRATE_TEXTS: [TextOption; 3] = [
+    TextOption {
+        name: "table",
+        value: "FILE",
+        help: "The file of the fare table by which the journal was made, in TOML",
+    },
+    TextOption {
+        name: "from",
+        value: "FILE",
+        help: "The file of the old journal",
+    },
+    TextOption {
+        name: "to",
+        value: "FILE",
+        help: "The new journal's file, which is made where there is none;
+else it has to be empty",
+    },
+];
+
+/// How many cards a journal was made with.
+const MADE_WITH: NumberOption = NumberOption {
+    name: "cards",
+    limit: CARDS_LIMIT,
+    help: "With how many cards the journal was made, from 1 to 100000",
 };
 
 /// How many cards a replay has.
@@ -81,11 +145,12 @@ const SERVE_TEXTS: [TextOption; 3] = [
 ];
 
 /// The numbers that a server needs.
-const SERVE_NUMBERS: [NumberOption; 4] = [
+const SERVE_NUMBERS: [NumberOption; 3] = [
     NumberOption {
         name: "cards",
         limit: CARDS_LIMIT,
-        help: "How many cards there are, from 1 to 100000; a journal is opened with its own number",
+        help: "How many cards there are, from 1 to 100000;
+a journal is opened with its own number",
     },
     NumberOption {
         name: "capacity",
@@ -97,22 +162,25 @@ const SERVE_NUMBERS: [NumberOption; 4] = [
         limit: LINES_LIMIT,
         help: "How many gates are served at once, from 1 to 64",
     },
-    NumberOption {
-        name: "connections",
-        limit: CONNECTIONS_LIMIT,
-        help: "How many connections each line serves before it is done, from 1 to 1000000",
-    },
 ];
+
+/// How many connections a line of a server gives its gates.
+const CONNECTIONS_HELP: &str =
+    "How many connections each line serves before it is done, from 1 to 1000000;
+without it 1000000";
 
 /// The command line of the program.
 pub(crate) fn command<'a>(alloc: Global) -> Result<Command<'a>, Error> {
     Ok(
-        Command::new(alloc, "tap_server")
+        Command::new(alloc, NAME)
+            .bin_name(NAME)?
+            .version(VERSION)
             .about(ABOUT)
             .subcommand_required(true)
             .subcommand(replay_command(alloc)?)?
             .subcommand(check_command(alloc)?)?
-            .subcommand(serve_command(alloc)?)?,
+            .subcommand(serve_command(alloc)?)?
+            .subcommand(migrate_command(alloc)?)?,
     )
 }
 
@@ -122,7 +190,7 @@ fn replay_command<'a>(alloc: Global) -> Result<Command<'a>, Error> {
         "The file of the fare table, in TOML; without it the example table is taken",
     );
     let command = titled(alloc, "replay", REPLAY_ABOUT, REPLAY_EXAMPLE).arg(table)?;
-    Ok(with_number(alloc, command, &CARDS)?)
+    with_revisions(alloc, with_number(alloc, command, &CARDS)?)
 }
 
 /// The command `check`.
@@ -133,17 +201,30 @@ fn check_command<'a>(alloc: Global) -> Result<Command<'a>, Error> {
 
 /// The command `serve`.
 fn serve_command<'a>(alloc: Global) -> Result<Command<'a>, Error> {
-    let mut command = titled(alloc, "serve", SERVE_ABOUT, SERVE_EXAMPLE);
+    let mut command = titled(alloc, "serve", SERVE_ABOUT, SERVE_EXAMPLE).override_usage(
+        SERVE_USAGE,
+    );
     for text in &SERVE_TEXTS {
         command = with_text(alloc, command, text)?;
     }
     for number in &SERVE_NUMBERS {
         command = with_number(alloc, command, number)?;
     }
+    let connections = number(alloc, "connections", CONNECTIONS_LIMIT).help(CONNECTIONS_HELP);
     let idle = number(alloc, "idle", IDLE_LIMIT).value_name("SECONDS").help(
-        "Gives a gate up that sends nothing for so long; without it none is",
+        "Ends a connection on which nothing was sent, or taken, for so long;
+without it none is ended",
     );
-    Ok(command.arg(idle)?)
+    with_revisions(alloc, command.arg(connections)?.arg(idle)?)
+}
+
+/// The command `migrate`.
+fn migrate_command<'a>(alloc: Global) -> Result<Command<'a>, Error> {
+    let mut command = titled(alloc, "migrate", MIGRATE_ABOUT, MIGRATE_EXAMPLE);
+    for text in &MIGRATE_TEXTS {
+        command = with_text(alloc, command, text)?;
+    }
+    Ok(with_number(alloc, command, &MADE_WITH)?)
 }
 
 /// A command with what it does and how it is called.
@@ -175,6 +256,16 @@ fn with_number<'a>(
             .help(asked.help)
             .required(true),
     )
+}
+
+/// The command with the files of further fare tables, as its last words.
+fn with_revisions<'a>(alloc: Global, command: Command<'a>) -> Result<Command<'a>, Error> {
+    let revisions = Arg::new(alloc, "revisions")
+        .value_name("REVISION")
+        .num_args(..)
+        .action(ArgAction::Append)
+        .help(REVISIONS_HELP);
+    Ok(command.arg(revisions)?)
 }
 
 /// An option with a value.

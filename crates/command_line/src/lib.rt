@@ -6,7 +6,7 @@
 mod arguments;
 mod commands;
 
-pub use arguments::{Arguments, Serve, arguments_of, refuse_bytes};
+pub use arguments::{Arguments, Migrate, Serve, arguments_of, refuse_bytes};
 
 #[cfg(test)]
 mod tests;

@@ -1,46 +1,58 @@
-use crate::{Arguments, Serve, arguments_of, refuse_bytes};
+use crate::{Arguments, Migrate, Serve, arguments_of, refuse_bytes};
+use clap::error::ErrorKind;
+use std::alloc::Global;
 use std::test::Fail;
+
+/// A replay of so many cards by the table in a file, or by the example table, and by further ones.
+fn replay_of<'a>(table: Option<&'a str>, cards: u32, revisions: Vec<&'a str>) -> Arguments<'a> {
+    Arguments::Replay {
+        table,
+        cards,
+        revisions,
+    }
+}
 
 #[test]
 fn a_command_line_has_one_command_and_what_it_needs(rt: HostRuntime) -> Result<(), Fail> {
     let alloc = rt.alloc();
     for (number, cards) in [("1", 1), ("10", 10), ("100000", 100_000)] {
-        let words = ["tap_server", "replay", "--cards", number];
-        let asked = Arguments::Replay { table: None, cards };
-        assert_eq!(rt; arguments_of(alloc, &words)?, asked);
+        let words = ["bovtrila", "replay", "--cards", number];
+        assert_eq!(rt;
+            arguments_of(alloc, &words)?,
+            replay_of(None, cards, Vec::new(alloc))
+        );
     }
-    let words = ["tap_server", "check", "--table", "fares.toml"];
+    let words = ["bovtrila", "check", "--table", "fares.toml"];
     let table = "fares.toml";
     assert_eq!(rt; arguments_of(alloc, &words)?, Arguments::Check { table });
     let words = [
-        "tap_server",
+        "bovtrila",
         "replay",
         "--cards",
         "10",
         "--table",
         "fares.toml",
     ];
-    let asked = Arguments::Replay {
-        table: Some(table),
-        cards: 10,
-    };
-    assert_eq!(rt; arguments_of(alloc, &words)?, asked);
+    assert_eq!(rt;
+        arguments_of(alloc, &words)?,
+        replay_of(Some(table), 10, Vec::new(alloc))
+    );
     let refused: [&[&str]; 14] = [
-        &["tap_server"],
-        &["tap_server", "reply", "--cards", "10"],
-        &["tap_server", "replay"],
-        &["tap_server", "replay", "--cards"],
-        &["tap_server", "replay", "--cards", "0"],
-        &["tap_server", "replay", "--cards", "100001"],
-        &["tap_server", "replay", "--cards", "x"],
-        &["tap_server", "replay", "--cards", "+10"],
-        &["tap_server", "replay", "--cards", "10", "--cards", "10"],
-        &["tap_server", "--cards", "10", "replay"],
-        &["tap_server", "check"],
-        &["tap_server", "check", "--table"],
-        &["tap_server", "check", "fares.toml"],
+        &["bovtrila"],
+        &["bovtrila", "reply", "--cards", "10"],
+        &["bovtrila", "replay"],
+        &["bovtrila", "replay", "--cards"],
+        &["bovtrila", "replay", "--cards", "0"],
+        &["bovtrila", "replay", "--cards", "100001"],
+        &["bovtrila", "replay", "--cards", "x"],
+        &["bovtrila", "replay", "--cards", "+10"],
+        &["bovtrila", "replay", "--cards", "10", "--cards", "10"],
+        &["bovtrila", "--cards", "10", "replay"],
+        &["bovtrila", "check"],
+        &["bovtrila", "check", "--table"],
+        &["bovtrila", "check", "fares.toml"],
         &[
-            "tap_server",
+            "bovtrila",
             "check",
             "--table",
             "fares.toml",
@@ -53,17 +65,17 @@ fn a_command_line_has_one_command_and_what_it_needs(rt: HostRuntime) -> Result<(
         assert_eq!(rt; error.exit_code(), 2);
     }
     for command in ["replay", "check"] {
-        let words = ["tap_server", command, "--help"];
+        let words = ["bovtrila", command, "--help"];
         let help = arguments_of(alloc, &words).err().ok_or("help")?;
         assert_eq!(rt; help.exit_code(), 0, "{command}");
     }
     Ok(())
 }
 
-/// The words of a server's command line, with this number of lines.
-fn serve_words(lines: &str) -> [&str; 16] {
+/// The words of a server's command line, with so many lines of so many connections each.
+fn serve_words<'a>(lines: &'a str, connections: &'a str) -> [&'a str; 16] {
     [
-        "tap_server",
+        "bovtrila",
         "serve",
         "--table",
         "fares.toml",
@@ -78,38 +90,193 @@ fn serve_words(lines: &str) -> [&str; 16] {
         "--lines",
         lines,
         "--connections",
-        "2",
+        connections,
     ]
 }
 
+/// The server that these words ask for, where they do.
+fn serve_of<'a>(alloc: Global, words: &'a [&'a str]) -> Option<Serve<'a>> {
+    match arguments_of(alloc, words) {
+        Ok(Arguments::Serve(serve)) => Some(serve),
+        _ => None,
+    }
+}
+
+/// The files of further tables that these words name for a replay, where they ask for one.
+fn replayed_by<'a>(alloc: Global, words: &'a [&'a str]) -> Option<Vec<&'a str>> {
+    match arguments_of(alloc, words) {
+        Ok(Arguments::Replay { revisions, .. }) => Some(revisions),
+        _ => None,
+    }
+}
+
 #[test]
-fn a_server_needs_all_its_options_but_the_idle_time(rt: HostRuntime) -> Result<(), Fail> {
+fn the_version_names_the_toolchain_that_proved_it(rt: HostRuntime) -> Result<(), Fail> {
     let alloc = rt.alloc();
-    let words = serve_words("64");
-    let mut asked = Serve {
-        table: "fares.toml",
-        journal: "station.journal",
-        cards: 10,
-        capacity: 100,
-        listen: "127.0.0.1:0",
-        lines: 64,
-        connections: 2,
-        idle: None,
-    };
-    assert_eq!(rt; arguments_of(alloc, &words)?, Arguments::Serve(asked));
+    let words = ["bovtrila", "--version"];
+    let shown = arguments_of(alloc, &words).err().ok_or("a version")?;
+    assert_eq!(rt; shown.kind(), ErrorKind::DisplayVersion);
+    assert_eq!(rt; shown.exit_code(), 0);
+    assert!(rt; !shown.use_stderr());
+    let text = format!(in alloc; "{shown}")?;
+    assert_eq!(rt;
+        text.as_str(),
+        "bovtrila 1.0.0\nproved by rattle-kit-13b logic dac8208d650f15bf\n"
+    );
+    Ok(())
+}
+
+#[test]
+fn help_names_the_program_and_fits_a_hundred_columns(rt: HostRuntime) -> Result<(), Fail> {
+    let alloc = rt.alloc();
+    for (command, usage, example) in [
+        (
+            "replay",
+            "[OPTIONS] --cards <N> [REVISION]...\n",
+            "| bovtrila replay --cards 10\n",
+        ),
+        (
+            "check",
+            "--table <FILE>\n",
+            "  bovtrila check --table fares.toml\n",
+        ),
+        (
+            "serve",
+            "[OPTIONS] --table <FILE> --journal <FILE> --listen <ADDR> --cards <N>\n         \
+             --capacity <N> --lines <N> [REVISION]...\n",
+            "  bovtrila serve --table fares.toml --journal station.journal",
+        ),
+        (
+            "migrate",
+            "--table <FILE> --from <FILE> --to <FILE> --cards <N>\n",
+            "  bovtrila migrate --table fares.toml --from station.journal",
+        ),
+    ] {
+        // The file that the program is started from has another name.
+        let words = ["out/tap_server", command, "--help"];
+        let help = arguments_of(alloc, &words).err().ok_or("help")?;
+        assert_eq!(rt; help.kind(), ErrorKind::DisplayHelp, "{command}");
+        let text = format!(in alloc; "{help}")?;
+        let usage = format!(in alloc; "\nUsage: bovtrila {command} {usage}")?;
+        assert!(rt; text.contains(usage.as_str()), "{text}");
+        assert!(rt; text.contains(example), "{text}");
+        assert!(rt; !text.contains("tap_server"), "{text}");
+        for line in text.lines() {
+            assert!(rt; line.chars().count() <= 100, "{line}");
+        }
+    }
+    Ok(())
+}
+
+#[test]
+fn further_tables_are_the_last_words(rt: HostRuntime) -> Result<(), Fail> {
+    let alloc = rt.alloc();
+    let words = [
+        "bovtrila", "replay", "--cards", "10", "a.toml", "b.toml", "a.toml",
+    ];
+    let tables = replayed_by(alloc, &words).ok_or("a replay")?;
+    assert_eq!(rt;
+        tables.as_slice(),
+        ["a.toml", "b.toml", "a.toml"].as_slice()
+    );
+    let words = serve_words("64", "2");
+    let mut with_tables = words.to_vec(alloc)?;
+    with_tables.extend_from_slice(&["b.toml", "a.toml"])?;
+    let serve = serve_of(alloc, with_tables.as_slice()).ok_or("a server")?;
+    assert_eq!(rt; serve.table, "fares.toml");
+    assert_eq!(rt; serve.revisions.as_slice(), ["b.toml", "a.toml"].as_slice());
+    Ok(())
+}
+
+#[test]
+fn a_line_serves_a_million_connections_where_no_number_is_named(
+    rt: HostRuntime,
+) -> Result<(), Fail> {
+    let alloc = rt.alloc();
+    let words = serve_words("64", "2");
+    let without = words.get(..14).ok_or("so many words")?;
+    let serve = serve_of(alloc, without).ok_or("a server")?;
+    assert_eq!(rt; serve.connections, 1_000_000);
+    for (number, connections) in [("1", 1), ("1000000", 1_000_000)] {
+        let words = serve_words("64", number);
+        let serve = serve_of(alloc, &words).ok_or("a server")?;
+        assert_eq!(rt; serve.connections, connections);
+    }
+    for number in ["0", "1000001", "x", "+5"] {
+        let words = serve_words("64", number);
+        let error = arguments_of(alloc, &words).err().ok_or("a refusal")?;
+        assert_eq!(rt; error.exit_code(), 2, "{number} connections");
+    }
+    Ok(())
+}
+
+#[test]
+fn a_server_needs_its_tables_its_journal_and_its_numbers(rt: HostRuntime) -> Result<(), Fail> {
+    let alloc = rt.alloc();
+    let words = serve_words("64", "2");
+    let serve = serve_of(alloc, &words).ok_or("a server")?;
+    assert_eq!(rt; serve.table, "fares.toml");
+    assert_eq!(rt; serve.revisions.len(), 0);
+    assert_eq!(rt; serve.journal, "station.journal");
+    assert_eq!(rt; serve.listen, "127.0.0.1:0");
+    let numbers = (serve.cards, serve.capacity, serve.lines, serve.connections);
+    assert_eq!(rt; numbers, (10, 100, 64, 2));
+    assert_eq!(rt; serve.idle, None);
     let mut with_idle = words.to_vec(alloc)?;
     with_idle.extend_from_slice(&["--idle", "600"])?;
-    asked.idle = Some(600);
-    assert_eq!(rt;
-        arguments_of(alloc, with_idle.as_slice())?,
-        Arguments::Serve(asked)
-    );
+    let serve = serve_of(alloc, with_idle.as_slice()).ok_or("a server")?;
+    assert_eq!(rt; serve.idle, Some(600));
     for lines in ["0", "65", "+2", "-1", "x"] {
-        let words = serve_words(lines);
+        let words = serve_words(lines, "2");
         let error = arguments_of(alloc, &words).err().ok_or("a refusal")?;
         assert_eq!(rt; error.exit_code(), 2, "{lines} lines");
     }
-    let fewer = words.get(..14).ok_or("so many words")?;
+    let fewer = words.get(..12).ok_or("so many words")?;
+    let error = arguments_of(alloc, fewer).err().ok_or("a refusal")?;
+    assert_eq!(rt; error.exit_code(), 2);
+    Ok(())
+}
+
+/// The words of the carrying over of a journal of so many cards.
+fn migrate_words(cards: &str) -> [&str; 10] {
+    [
+        "bovtrila",
+        "migrate",
+        "--table",
+        "fares.toml",
+        "--from",
+        "old.journal",
+        "--to",
+        "new.journal",
+        "--cards",
+        cards,
+    ]
+}
+
+/// The carrying over that these words ask for, where they do.
+fn migration_of<'a>(alloc: Global, words: &'a [&'a str]) -> Option<Migrate<'a>> {
+    match arguments_of(alloc, words) {
+        Ok(Arguments::Migrate(migrate)) => Some(migrate),
+        _ => None,
+    }
+}
+
+#[test]
+fn a_migration_needs_all_its_options(rt: HostRuntime) -> Result<(), Fail> {
+    let alloc = rt.alloc();
+    let words = migrate_words("10");
+    let asked = migration_of(alloc, &words).ok_or("a migration")?;
+    assert_eq!(rt; asked.table, "fares.toml");
+    assert_eq!(rt; asked.from, "old.journal");
+    assert_eq!(rt; asked.to, "new.journal");
+    assert_eq!(rt; asked.cards, 10);
+    let mut more = words.to_vec(alloc)?;
+    more.extend_from_slice(&["b.toml"])?;
+    let error = arguments_of(alloc, more.as_slice())
+        .err()
+        .ok_or("a refusal")?;
+    assert_eq!(rt; error.exit_code(), 2);
+    let fewer = words.get(..8).ok_or("so many words")?;
     let error = arguments_of(alloc, fewer).err().ok_or("a refusal")?;
     assert_eq!(rt; error.exit_code(), 2);
     Ok(())

@@ -21,8 +21,20 @@ impl Dated {
     }
 }
 
-/// The place of the table in force on a fare day. It is found by halving, since the days ascend.
+/// The place of the table in force on a fare day: mostly the newest one's, and else it is searched for.
 pub(crate) fn place_on(dated: &[Dated], day: i32) -> usize
+    requires ascending { AreAscending dated.now }
+    ensures value { result ≡ place_by 0 dated.now day }
+    ensures placed { (last : ℕ) → ArePlaced last dated.now → result ≤ last }
+{
+    match dated.last() {
+        Some(newest) if newest.is_until(day) => newest.place,
+        _ => place_searched(dated, day),
+    }
+}
+
+/// The place of the table in force on a fare day. It is found by halving, since the days ascend.
+fn place_searched(dated: &[Dated], day: i32) -> usize
     requires ascending { AreAscending dated.now }
     ensures value { result ≡ place_by 0 dated.now day }
     ensures placed { (last : ℕ) → ArePlaced last dated.now → result ≤ last }

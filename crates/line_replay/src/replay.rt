@@ -2,7 +2,8 @@
 
 ghost use Rattle.std.specs.Prelude.{◌≡◌, ◌+◌, ◌≤◌, ◌<◌, ◌^◌, ◌++◌, ◌∷◌, ℕ, List, [], length, IfOk, IfErr, IsErrAnd, OnOk};
 ghost use Rattle.std.specs.Io.KnownBytes.{Appends, IsAtEnd};
-ghost use Rattle.oyster_account.specs.Scheme.{scheme_of};
+ghost use Rattle.fare_schedule.specs.Schedule.{revisions_of};
+ghost use Rattle.reply_book.specs.Tables.{tables_in};
 ghost use Rattle.reply_book.specs.declared.book.TheConstants.{CARD_LIMIT};
 ghost use Rattle.gate_session.specs.Writing.{IsBeginning, Wrote, Ran};
 ghost use Rattle.line_replay.specs.declared.fault.RunFault.TheVariants.{Memory, Write};
@@ -18,7 +19,7 @@ use crate::hex_line::{LINE_LIMIT, append_answer, request_of_line};
 use crate::line::split_line;
 use crate::station::answer_request;
 use crate::stream::{PIECE_SIZE, read_piece};
-use fare_table::Fares;
+use fare_schedule::Schedule;
 use gate_session::{Answer, FaultCode, Request, write_text};
 use reply_book::Book;
 use std::alloc::{AllocError, Global};
@@ -26,10 +27,8 @@ use std::io::{Read, Write};
 
 /// A replay under way.
 #[derive(Drop)]
-pub(crate) struct Replay<'a> {
-    /// The fare table by which all touches are judged.
-    fares: &'a Fares,
-    /// The touches so far.
+pub(crate) struct Replay {
+    /// The touches so far, and the tables by which they are judged.
     book: Book,
     /// What earlier pieces began of a line that isn't ended.
     begun: Vec<u8>,
@@ -40,11 +39,17 @@ pub(crate) struct Replay<'a> {
 }
 
 /// Answers the lines that a reader gives, and writes each answer, from an empty history on so many
-/// cards, from 1 to 100000. The answers to all lines that a read ends are written before the next
-/// read.
+/// cards, from 1 to 100000. The schedule has the tables, and no revision yet: revisions come as
+/// lines, and one to a table that isn't there gets its fault. The answers to all lines that a read
+/// ends are written before the next read.
+///
+/// `BadLine` comes at the first line that is no request, behind whose fault nothing is written;
+/// `Read` where a read fails, or `turns` of them come to no end; `Write` where a write fails or
+/// takes nothing; and `Memory` where memory is refused. What is written then is a beginning of the
+/// answers.
 pub fn replay_text<R: Read, W: Write>(
     alloc: Global,
-    fares: &Fares,
+    schedule: Schedule,
     cards: u32,
     reader: &mut R,
     writer: &mut W,
@@ -52,11 +57,12 @@ pub fn replay_text<R: Read, W: Write>(
 ) -> Result<(), RunFault>
     requires some { 1 ≤ cards }
     requires limit { cards ≤ CARD_LIMIT }
+    requires unrevised { revisions_of schedule ≡ [] }
     ensures written { Ran (R.remaining reader.old) (R.remaining reader.new) (W.contents writer.old) (W.contents writer.new)
-        (λ bytes text. HasWritten (output_of (scheme_of fares.now) cards bytes) text result) }
+        (λ bytes text. HasWritten (output_of (tables_in schedule) cards bytes) text result) }
     ensures end { OnOk result (IsAtEnd (R.remaining reader.new)) }
 {
-    let mut replay = Replay::new(alloc, fares, cards)?;
+    let mut replay = Replay::new(alloc, schedule, cards)?;
     let mut piece = vec![in alloc; 0u8; PIECE_SIZE]?;
     for _ in 0..turns {
         let size = read_piece(reader, &mut piece)?;
@@ -68,7 +74,26 @@ pub fn replay_text<R: Read, W: Write>(
     Err(RunFault::Read)
 }
 
-impl Replay<'_> {
+impl Replay {
+    /// A replay that has read nothing.
+    fn new(alloc: Global, schedule: Schedule, cards: u32) -> Result<Replay, RunFault>
+        requires some { 1 ≤ cards }
+        requires limit { cards ≤ CARD_LIMIT }
+        requires unrevised { revisions_of schedule ≡ [] }
+        ensures begins { IfOk result (λ replay. (bytes : List ℕ)
+            → output_from replay bytes ≡ output_of (tables_in schedule) cards bytes) }
+        ensures kept { IfOk result IsUnderWay }
+        ensures answered { IfOk result (λ replay. replay.answered ≡ 0) }
+        ensures err { IfErr result (λ fault. fault ≡ Memory) }
+    {
+        Ok(Replay {
+            book: Book::new(alloc, cards, schedule)?,
+            begun: Vec::new(alloc),
+            answered: 0,
+            text: Vec::new(alloc),
+        })
+    }
+
     /// Writes the answers to all lines that a piece ends.
     fn answer_piece<W: Write>(&mut self, piece: &[u8], writer: &mut W) -> Result<(), RunFault>
         requires kept { IsUnderWay self.old }
@@ -164,7 +189,7 @@ impl Replay<'_> {
         let Some(request) = request_ended(&mut self.begun, bytes)? else {
             return self.refuse_line();
         };
-        let answer = answer_request(&mut self.book, self.fares, request)?;
+        let answer = answer_request(&mut self.book, request)?;
         append_answer(&mut self.text, &answer)?;
         self.answered += 1;
         Ok(())
@@ -199,27 +224,6 @@ impl Replay<'_> {
         write_text(writer, &self.text)?;
         self.text.clear();
         Ok(())
-    }
-}
-
-impl<'a> Replay<'a> {
-    /// A replay that has read nothing.
-    fn new(alloc: Global, fares: &'a Fares, cards: u32) -> Result<Replay<'a>, RunFault>
-        requires some { 1 ≤ cards }
-        requires limit { cards ≤ CARD_LIMIT }
-        ensures begins { IfOk result (λ replay. (bytes : List ℕ)
-            → output_from replay bytes ≡ output_of (scheme_of fares.now) cards bytes) }
-        ensures kept { IfOk result IsUnderWay }
-        ensures answered { IfOk result (λ replay. replay.answered ≡ 0) }
-        ensures err { IfErr result (λ fault. fault ≡ Memory) }
-    {
-        Ok(Replay {
-            fares,
-            book: Book::new(alloc, cards)?,
-            begun: Vec::new(alloc),
-            answered: 0,
-            text: Vec::new(alloc),
-        })
     }
 }
 

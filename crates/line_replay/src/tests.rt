@@ -1,10 +1,19 @@
+//! What no clause says of replays: worked lines, the texts of answers, and what stands where a
+//! read, a write or an allocation fails.
+
 mod fakes;
 mod journeys;
+mod memory;
+mod revision;
 mod rows;
 mod stream;
 
+ghost use Rattle.std.specs.Prelude.{◌≡◌, [], IfSome};
+ghost use Rattle.fare_schedule.specs.Schedule.{revisions_of};
+
 use crate::{RunFault, replay_text};
 use fakes::{Pieces, Taker};
+use fare_schedule::Schedule;
 use fare_table::{EXAMPLE_TABLE, Fares};
 use rows::{ASKED_AGAIN, FIRST_PATH, MISSING_TOUCHES, REFUSALS};
 use std::alloc::{AllocError, Global};
@@ -26,6 +35,14 @@ fn lines_of(alloc: Global, rows: &[Row], written: bool) -> Result<Vec<u8>, Alloc
     Ok(text)
 }
 
+/// A schedule of the example table alone. There is none for want of memory.
+fn example(alloc: Global) -> Option<Schedule>
+    ensures { IfSome result (λ schedule. revisions_of schedule ≡ []) }
+{
+    let first = Fares::read(alloc, EXAMPLE_TABLE).ok()?;
+    Schedule::new(alloc, first).ok()
+}
+
 /// How a replay by the example table ends, on ten cards.
 fn run<R: Read, W: Write>(
     alloc: Global,
@@ -33,10 +50,8 @@ fn run<R: Read, W: Write>(
     writer: &mut W,
     turns: u32,
 ) -> Result<Result<(), RunFault>, Fail> {
-    let fares = Fares::read(alloc, EXAMPLE_TABLE)
-        .ok()
-        .ok_or("the example table is valid")?;
-    Ok(replay_text(alloc, &fares, 10, reader, writer, turns))
+    let schedule = example(alloc).ok_or("a schedule")?;
+    Ok(replay_text(alloc, schedule, 10, reader, writer, turns))
 }
 
 /// What is written for bytes that come in one piece, and how the run ends.

@@ -7,10 +7,12 @@ use Rattle.money_time.specs.declared.stamp.Window.TheVariants.{Early, Evening, O
 use Rattle.fare_table.specs.Fare.{maximum_of}
 use Rattle.fare_table.specs.Fares.{content_of}
 use Rattle.fare_table.specs.declared.fares.Fares.{Fares}
+use Rattle.fare_schedule.specs.declared.schedule.Schedule.{Schedule}
+use Rattle.fare_schedule.specs.Schedule.{table_on, content_on}
 use Rattle.fare_table.specs.declared.key.TheConstants.{HIGHEST_PRICE}
 use Rattle.fare_table.proofs.BoundLemmas.{fare-bound}
 use Rattle.oyster_account.specs.declared.touch.Act.{Act}
-use Rattle.oyster_account.specs.declared.touch.Act.TheVariants.{Enter, Leave, TopUp, Issue}
+use Rattle.oyster_account.specs.declared.touch.Act.TheVariants.{Enter, Leave, TopUp, Issue, Revise}
 use Rattle.oyster_account.specs.declared.travel.Passage.{Passage}
 use Rattle.oyster_account.specs.declared.reply.Reply.{Reply}
 use Rattle.oyster_account.specs.declared.reply.CardView.{CardView}
@@ -18,9 +20,9 @@ use Rattle.oyster_account.specs.declared.reply.CardState.{CardState}
 use Rattle.oyster_account.specs.declared.reply.CardState.TheVariants.{Vacant}
 use Rattle.oyster_account.specs.declared.account.Account.{Account}
 use Rattle.oyster_account.specs.declared.verdict.Acceptance.{Acceptance}
-use Rattle.oyster_account.specs.declared.verdict.Acceptance.TheVariants.{Entered, EnteredContinued, EnteredOverOpen, Exited, ExitedUnstarted, ExitedLate, ToppedUp, Issued}
+use Rattle.oyster_account.specs.declared.verdict.Acceptance.TheVariants.{Entered, EnteredContinued, EnteredOverOpen, Exited, ExitedUnstarted, ExitedLate, ToppedUp, Issued, Revised}
 use Rattle.oyster_account.specs.declared.verdict.Refusal.{Refusal}
-use Rattle.oyster_account.specs.declared.verdict.Refusal.TheVariants.{UnknownCard, AlreadyIssued, UnknownStation, Backwards, LowBalance, BadAmount, OverLimit}
+use Rattle.oyster_account.specs.declared.verdict.Refusal.TheVariants.{UnknownCard, AlreadyIssued, UnknownStation, Backwards, LowBalance, BadAmount, OverLimit, BadDay}
 use Rattle.oyster_account.specs.Scheme.{Scheme, Terms, scheme_of}
 use Rattle.oyster_account.specs.Travel.{Tap, In, Out, travel}
 use Rattle.oyster_account.specs.Leg.{is_in_time}
@@ -42,10 +44,11 @@ maximum-highest fares Off = fares.within_limits.maximum_off_peak
 maximum-highest fares Early = fares.within_limits.maximum_peak
 maximum-highest fares Evening = fares.within_limits.maximum_peak
 
-pub fares-priced : (fares : Fares) → IsPriced (scheme_of fares)
-fares-priced fares = record {
-  fare = λ day from to window. fare-bound (content_of fares) fares.within_maximum from to window;
-  maximum = λ day window. maximum-highest fares window;
+pub schedule-priced : (schedule : Schedule) → IsPriced (scheme_of schedule)
+schedule-priced schedule = record {
+  fare = λ day from to window.
+      fare-bound (content_on schedule day) (table_on schedule day).within_maximum from to window;
+  maximum = λ day window. maximum-highest (table_on schedule day) window;
 }
 
 -- what is seen of a card that is issued
@@ -67,6 +70,7 @@ acts_after-refused acts act Backwards b = refl
 acts_after-refused acts act LowBalance b = refl
 acts_after-refused acts act BadAmount b = refl
 acts_after-refused acts act OverLimit b = refl
+acts_after-refused acts act BadDay b = refl
 
 -- an accepted act is the newest of the acts
 acts_after-granted : (acts : List Act) (act : Act) (a : Acceptance) (old new : ℤ) →
@@ -79,6 +83,7 @@ acts_after-granted acts act ExitedUnstarted old new = refl
 acts_after-granted acts act ExitedLate old new = refl
 acts_after-granted acts act ToppedUp old new = refl
 acts_after-granted acts act Issued old new = refl
+acts_after-granted acts act Revised old new = refl
 
 module _ (scheme : Scheme) (acts : List Act) (act : Act) (account : Account) (back : Bool) (b : ℤ)
     (is : IsAccountOf scheme acts account) (back_is : back ≡ is_backwards scheme (travel scheme acts) act)
@@ -171,6 +176,12 @@ module _ (scheme : Scheme) (priced : IsPriced scheme) where
       balances-near (sum_by pence_paid acts) (sum_by pence_paid (Issue m ∷ acts))
       (travel_charge scheme (travel scheme acts)) (travel_charge scheme (travel scheme acts))
       (omega arith) (omega arith) (omega arith) (omega arith)
+  balance-near terms (Revise s d m) acts sound =
+      let paid : sum_by pence_paid (Revise s d m ∷ acts) ≡ 0 + sum_by pence_paid acts =
+      sum_by-cons pence_paid (Revise s d m) acts in
+      balances-near (sum_by pence_paid acts) (sum_by pence_paid (Revise s d m ∷ acts))
+      (travel_charge scheme (travel scheme acts)) (travel_charge scheme (travel scheme acts))
+      (omega arith) (omega arith) (omega arith) (omega arith)
 
   -- so do the balances before it and with it, as they are worked out
   pub kept-near : (terms : Terms) (act : Act) (acts : List Act) (old new : ℤ) → IsSound terms act →
@@ -214,6 +225,7 @@ module _ (scheme : Scheme) (priced : IsPriced scheme) where
       (exit-refund (record { station = s; stamp = scheme.stamp m }) (travel scheme acts) is)
   granted-refund acts (TopUp p m) is = absurd (omega arith)
   granted-refund acts (Issue m) is = absurd (omega arith)
+  granted-refund acts (Revise s d m) is = absurd (omega arith)
 
   reply-refund : (acts : List Act) (act : Act) (found : Option Refusal) →
       (reply_by scheme acts act found).verdict ≡ 4 → pos 0 ≤ℤ (reply_by scheme acts act found).change
@@ -235,6 +247,7 @@ granted-accepted ExitedUnstarted old new = refl
 granted-accepted ExitedLate old new = refl
 granted-accepted ToppedUp old new = refl
 granted-accepted Issued old new = refl
+granted-accepted Revised old new = refl
 
 module _ (scheme : Scheme) (acts : List Act) (act : Act) where
   reply-refused : (found : Option Refusal) → is_accepted (reply_by scheme acts act found) ≡ false →

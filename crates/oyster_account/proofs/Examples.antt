@@ -1,7 +1,7 @@
 -- The numbers that definitions and clauses take from the code, and worked examples, computed by the
 -- definitions: each reply is that of docs/FARES.md, "Worked examples".
 use Rattle.std.proofs.Common.{◌≡◌, refl, ℕ, ℤ, pos, ◌+◌, ◌-ℤ◌, ◌*◌, true, false, List, [], ◌∷◌, None, map}
-use Rattle.std.specs.Prelude.{◌/◌, ◌%◌, if◌then◌else◌}
+use Rattle.std.specs.Prelude.{◌/◌, ◌%◌, int_lt, if◌then◌else◌}
 use Rattle.jiff_core.specs.Calendar.{weekday_number}
 use Rattle.jiff_tz.specs.declared.timezone.TimeZone.{TimeZone}
 use Rattle.money_time.specs.declared.stamp.Stamp.{Stamp}
@@ -12,21 +12,22 @@ use Rattle.fare_table.specs.declared.station.Station.{Station}
 use Rattle.fare_table.specs.declared.station.Zones.{Zones}
 use Rattle.fare_table.specs.declared.station.Zones.TheVariants.{One, Two}
 use Rattle.oyster_account.specs.declared.touch.Act.{Act}
-use Rattle.oyster_account.specs.declared.touch.Act.TheVariants.{Enter, Leave, TopUp, Issue}
+use Rattle.oyster_account.specs.declared.touch.Act.TheVariants.{Enter, Leave, TopUp, Issue, Revise}
 use Rattle.oyster_account.specs.declared.reply.Reply.{Reply}
+use Rattle.oyster_account.specs.declared.reply.Judged.{Judged}
 use Rattle.fare_table.specs.declared.key.TheConstants.{HIGHEST_PRICE, MOST_CAPS}
 use Rattle.oyster_account.specs.declared.card.TheConstants.{HISTORY_LIMIT}
 use Rattle.oyster_account.specs.declared.totals.TheConstants.{CAP_LIMIT}
 use Rattle.oyster_account.specs.declared.travel.TheConstants.{SECONDS_PER_MINUTE}
 use Rattle.oyster_account.specs.declared.refusal.TheConstants.{TOP_UP_LIMIT}
 use Rattle.oyster_account.specs.declared.verdict.TheConstants.{FIRST_REFUSAL}
-use Rattle.oyster_account.specs.declared.touch.TheConstants.{KIND_ENTER, KIND_LEAVE, KIND_TOP_UP, KIND_ISSUE}
-use Rattle.oyster_account.specs.declared.verdict.Acceptance.TheVariants.{Entered, EnteredContinued, EnteredOverOpen, Exited, ExitedUnstarted, ExitedLate, ToppedUp, Issued}
-use Rattle.oyster_account.specs.declared.verdict.Refusal.TheVariants.{UnknownCard, AlreadyIssued, UnknownStation, Backwards, LowBalance, BadAmount, OverLimit}
+use Rattle.oyster_account.specs.declared.touch.TheConstants.{KIND_ENTER, KIND_LEAVE, KIND_TOP_UP, KIND_ISSUE, KIND_REVISE}
+use Rattle.oyster_account.specs.declared.verdict.Acceptance.TheVariants.{Entered, EnteredContinued, EnteredOverOpen, Exited, ExitedUnstarted, ExitedLate, ToppedUp, Issued, Revised}
+use Rattle.oyster_account.specs.declared.verdict.Refusal.TheVariants.{UnknownCard, AlreadyIssued, UnknownStation, Backwards, LowBalance, BadAmount, OverLimit, BadDay}
 use Rattle.oyster_account.specs.Verdict.{acceptance_code, refusal_code}
 use Rattle.oyster_account.specs.Scheme.{Scheme, terms_of}
 use Rattle.oyster_account.specs.History.{is_accepted}
-use Rattle.oyster_account.specs.Judge.{judge}
+use Rattle.oyster_account.specs.Judge.{judge, revision_reply}
 
 -- a history has at most a million touches, and a card keeps the sums of at most 32 caps
 a_million : HISTORY_LIMIT ≡ 1_000_000
@@ -51,17 +52,17 @@ a_refusal : FIRST_REFUSAL ≡ 20
 a_refusal = refl
 
 accepting : map acceptance_code (
-    Entered ∷ EnteredContinued ∷ EnteredOverOpen ∷ Exited ∷ ExitedUnstarted ∷ ExitedLate ∷ ToppedUp ∷ Issued ∷ [])
-    ≡ 1 ∷ 2 ∷ 3 ∷ 4 ∷ 5 ∷ 6 ∷ 7 ∷ 8 ∷ []
+    Entered ∷ EnteredContinued ∷ EnteredOverOpen ∷ Exited ∷ ExitedUnstarted ∷ ExitedLate ∷ ToppedUp ∷ Issued
+    ∷ Revised ∷ []) ≡ 1 ∷ 2 ∷ 3 ∷ 4 ∷ 5 ∷ 6 ∷ 7 ∷ 8 ∷ 9 ∷ []
 accepting = refl
 
 refusing : map refusal_code (
-    UnknownCard ∷ AlreadyIssued ∷ UnknownStation ∷ Backwards ∷ LowBalance ∷ BadAmount ∷ OverLimit ∷ [])
-    ≡ 20 ∷ 21 ∷ 22 ∷ 23 ∷ 24 ∷ 25 ∷ 26 ∷ []
+    UnknownCard ∷ AlreadyIssued ∷ UnknownStation ∷ Backwards ∷ LowBalance ∷ BadAmount ∷ OverLimit
+    ∷ BadDay ∷ []) ≡ 20 ∷ 21 ∷ 22 ∷ 23 ∷ 24 ∷ 25 ∷ 26 ∷ 27 ∷ []
 refusing = refl
 
--- the first byte of a touch in, a touch out, a top-up and an issue
-kinds : KIND_ENTER ∷ KIND_LEAVE ∷ KIND_TOP_UP ∷ KIND_ISSUE ∷ [] ≡ 1 ∷ 2 ∷ 3 ∷ 4 ∷ []
+-- the first byte of a touch in, a touch out, a top-up, an issue and a revision
+kinds : KIND_ENTER ∷ KIND_LEAVE ∷ KIND_TOP_UP ∷ KIND_ISSUE ∷ KIND_REVISE ∷ [] ≡ 1 ∷ 2 ∷ 3 ∷ 4 ∷ 6 ∷ []
 kinds = refl
 
 abbrev station : ℕ → Zones → Station
@@ -71,16 +72,17 @@ abbrev single : ℕ → ℕ → ℕ → ℕ → Single
 single low high peak off_peak =
     record { low = low; high = high; peak = peak; off_peak = off_peak }
 
--- the content of the example table, but for the stations' names
-abbrev example : TimeZone → Content
-example zone = record {
+-- the content of the example table, but for the stations' names, at this peak maximum and these fares of the zones 1
+-- and 2
+abbrev priced_at : ℕ → ℕ → ℕ → TimeZone → Content
+priced_at maximum peak off_peak zone = record {
   zone = zone;
   rates = record {
     entry_minimum = 190;
     balance_limit = 9000;
     leg_minutes = 90;
     evening_rule = true;
-    maximum_peak = 900;
+    maximum_peak = maximum;
     maximum_off_peak = 700;
   };
   holidays = pos 20447 ∷ [];
@@ -88,7 +90,7 @@ example zone = record {
       station 1 (One 1) ∷ station 2 (One 2) ∷ station 3 (One 3) ∷ station 4 (One 1)
       ∷ station 5 (Two 2 3) ∷ [];
   singles =
-      single 1 1 300 250 ∷ single 1 2 350 290 ∷ single 1 3 400 310 ∷ single 2 2 210 190
+      single 1 1 300 250 ∷ single 1 2 peak off_peak ∷ single 1 3 400 310 ∷ single 2 2 210 190
       ∷ single 2 3 240 210 ∷ single 3 3 210 190 ∷ [];
   pairs =
       record { from = 2; to = 4; lo = 2; hi = 2; peak = 230; off_peak = 200; minutes = None } ∷ [];
@@ -98,6 +100,13 @@ example zone = record {
       ∷ record { lo = 1; hi = 2; off_peak = true; price = 600 } ∷ [];
   interchanges = record { a = 1; b = 4; minutes = 10 } ∷ [];
 }
+
+-- its own prices, and those of a revised table
+abbrev example : TimeZone → Content
+example zone = priced_at 900 350 290 zone
+
+abbrev dearer : TimeZone → Content
+dearer zone = priced_at 1000 380 300 zone
 
 -- the stamps of its zone in winter, when its clock shows UTC: all moments here lie in January
 abbrev winter_stamp : ℕ → Stamp
@@ -115,6 +124,13 @@ winter_stamp moment =
 abbrev example_scheme : TimeZone → Scheme
 example_scheme zone = record { stamp = winter_stamp; on = λ _. terms_of (example zone) }
 
+-- the example table, and from Tuesday 2025-01-07 on the revised one
+abbrev revised_scheme : TimeZone → Scheme
+revised_scheme zone = record {
+  stamp = winter_stamp;
+  on = λ day. terms_of (if int_lt day (pos 20095) then example zone else dearer zone);
+}
+
 -- verdict, change and balance of the replies to these acts, after acts that were accepted
 abbrev reply : ℕ → ℤ → ℤ → Reply
 reply verdict change balance = record { verdict = verdict; change = change; balance = balance }
@@ -129,9 +145,12 @@ replies scheme acts (act ∷ others) =
 abbrev with_2000 : List Act
 with_2000 = TopUp 2000 0 ∷ Issue 0 ∷ []
 
--- an hour and a minute on Monday 2025-01-06 and on the Saturday after it
+-- an hour and a minute on Monday 2025-01-06, and on the Tuesday and the Saturday after it
 abbrev monday : ℕ → ℕ → ℕ
 monday hour minute = 1_736_121_600 + hour * 3_600 + minute * 60
+
+abbrev tuesday : ℕ → ℕ → ℕ
+tuesday hour minute = monday hour minute + 86_400
 
 abbrev saturday : ℕ → ℕ → ℕ
 saturday hour minute = monday hour minute + 432_000
@@ -280,3 +299,44 @@ module _ (zone : TimeZone) where
   holiday : told with_2000 (Enter 2 1_766_649_600 ∷ []) ≡ reply 1 (loss 700) (pos 1300) ∷ []
   unfolding weekday_number
   holiday = refl
+
+  -- a journey is priced by the table of its first touch in's day: in at 04:25 on Tuesday is still of Monday's fare day,
+  -- and out at 04:50 is not
+  over_a_revision : replies (revised_scheme zone) with_2000 (
+      Enter 2 (monday 8 0) ∷ Leave 1 (monday 8 25) ∷ Enter 2 (tuesday 4 25) ∷ Leave 1 (tuesday 4 50)
+      ∷ Enter 2 (tuesday 8 0) ∷ Leave 1 (tuesday 8 25) ∷ [])
+      ≡ reply 1 (loss 900) (pos 1100) ∷ reply 4 (pos 550) (pos 1650)
+      ∷ reply 1 (loss 700) (pos 950) ∷ reply 4 (pos 410) (pos 1360)
+      ∷ reply 1 (loss 1000) (pos 360) ∷ reply 4 (pos 620) (pos 980) ∷ []
+  unfolding weekday_number
+  over_a_revision = refl
+
+  -- a late touch out takes the maximum of its own day
+  late_over_a_revision : replies (revised_scheme zone) with_2000 (
+      Enter 2 (tuesday 4 25) ∷ Leave 1 (tuesday 6 30) ∷ [])
+      ≡ reply 1 (loss 700) (pos 1300) ∷ reply 6 (loss 1000) (pos 300) ∷ []
+  unfolding weekday_number
+  late_over_a_revision = refl
+
+  -- a touch with this act and the verdict that it was given
+  abbrev judged : Act → ℕ → Judged
+  judged act verdict =
+      record { touch = record { gate = 7; number = 3; card = 1; act = act }; reply = reply verdict (pos 0) (pos 0) }
+
+  -- a revision from a day that was travelled on is refused, and one from the day after it isn't
+  travelled_day : (revision_reply (example_scheme zone) (judged (Enter 2 (monday 8 0)) 1 ∷ []) (pos 20094)
+      ≡ reply 27 (pos 0) (pos 0))
+      × (revision_reply (example_scheme zone) (judged (Enter 2 (monday 8 0)) 1 ∷ []) (pos 20095)
+      ≡ reply 9 (pos 0) (pos 0))
+      × (revision_reply (example_scheme zone) (judged (Enter 2 (monday 8 0)) 24 ∷ []) (pos 20094)
+      ≡ reply 9 (pos 0) (pos 0))
+  unfolding weekday_number
+  travelled_day = (refl, refl, refl)
+
+  -- so is one from the day of the revision before it
+  revised_day : (revision_reply (example_scheme zone) (judged (Revise [] (pos 20095) 0) 9 ∷ []) (pos 20095)
+      ≡ reply 27 (pos 0) (pos 0))
+      × (revision_reply (example_scheme zone) (judged (Revise [] (pos 20095) 0) 9 ∷ []) (pos 20096)
+      ≡ reply 9 (pos 0) (pos 0))
+  unfolding weekday_number
+  revised_day = (refl, refl)

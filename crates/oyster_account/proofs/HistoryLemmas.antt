@@ -1,17 +1,20 @@
 -- What a judged history shows: its travel is in order, and its accepted acts grow by the newest touch.
-use Rattle.std.proofs.Common.{◌≡◌, ℕ, ℤ, ◌≤◌, Bool, true, false, List, [], ◌∷◌, ◌++◌, Option, Some, None, IsTrue, refl, sym, ap, ◌∙◌, subst, reverse, arith, not, ◌&&◌, ◌||◌, ◌==◌, nat_lt, cond, map, filter}
+use Rattle.std.proofs.Common.{◌≡◌, ℕ, ℤ, ◌≤◌, Bool, true, false, List, [], ◌∷◌, ◌++◌, Option, Some, None, IsTrue, refl, sym, ap, ◌∙◌, reverse, arith, not, ◌&&◌, ◌||◌, ◌==◌, nat_lt, cond, map, filter}
 use Rattle.std.specs.Prelude.{int_lt}
 use Rattle.std.proofs.lemmas.Bool.{ltb-false}
 use Rattle.std.proofs.lemmas.Bool.Decides.{nat_tests}
 use Rattle.std.proofs.lemmas.Int.{ints}
 use Rattle.std.proofs.lemmas.List.{reverse-append}
 use Rattle.oyster_account.specs.declared.touch.Act.{Act}
-use Rattle.oyster_account.specs.declared.touch.Act.TheVariants.{Enter, Leave, TopUp, Issue}
+use Rattle.oyster_account.specs.declared.touch.Act.TheVariants.{Enter, Leave, TopUp, Issue, Revise}
 use Rattle.oyster_account.specs.declared.travel.Passage.{Passage}
 use Rattle.oyster_account.specs.declared.reply.Judged.{Judged}
+use Rattle.oyster_account.specs.declared.reply.Reply.{Reply}
 use Rattle.oyster_account.specs.declared.refusal.TheConstants.{TOP_UP_LIMIT}
 use Rattle.oyster_account.specs.declared.verdict.Refusal.{Refusal}
-use Rattle.oyster_account.specs.declared.verdict.Refusal.TheVariants.{UnknownCard, AlreadyIssued, UnknownStation, Backwards, LowBalance, BadAmount, OverLimit}
+use Rattle.oyster_account.specs.declared.verdict.Refusal.TheVariants.{UnknownCard, AlreadyIssued, UnknownStation, Backwards, LowBalance, BadAmount, OverLimit, BadDay}
+use Rattle.oyster_account.specs.declared.touch.Touch.{Touch}
+use Rattle.oyster_account.specs.Touch.{is_revision, is_of}
 use Rattle.oyster_account.specs.Scheme.{Scheme, Terms}
 use Rattle.oyster_account.specs.Travel.{Tap, passage_of, travel, day_of}
 use Rattle.oyster_account.specs.History.{is_accepted, counts_for, accepted, accepted_acts}
@@ -20,7 +23,7 @@ use Rattle.oyster_account.specs.Refusal.{is_station_unknown, is_balance_low, is_
 use Rattle.oyster_account.specs.Judge.{reply_by, judge}
 use Rattle.oyster_account.specs.Order.{GoesOn, IsAfter, IsInOrder}
 use Rattle.oyster_account.specs.Account.{IsSound, acts_after}
-use Rattle.oyster_account.specs.Standing.{AreJudged}
+use Rattle.oyster_account.specs.Standing.{AreOf}
 
 -- where nothing refuses, the first test fails and nothing after it refuses
 refuse-None : (b : Bool) (r : Refusal) (others : Option Refusal) → refuse b r others ≡ None →
@@ -72,6 +75,7 @@ unrefused_sound t issued back b (Enter s m) is = not-false (t.knows s) (unrefuse
 unrefused_sound t issued back b (Leave s m) is = not-false (t.knows s) (unrefused t issued back b (Leave s m) is).0
 unrefused_sound t issued back b (TopUp p m) is = top_up_sound p (unrefused t issued back b (TopUp p m) is).2
 unrefused_sound t issued back b (Issue m) is = tt
+unrefused_sound t issued back b (Revise s d m) is = tt
 
 issued-or : (issued issue : Bool) → (not issued && not issue) ≡ false → (issue || issued) ≡ true
 issued-or true true is = refl
@@ -105,6 +109,7 @@ order-kept scheme acts (Enter s m) is order = (not-backwards (travel scheme acts
 order-kept scheme acts (Leave s m) is order = (not-backwards (travel scheme acts) _ is, order)
 order-kept scheme acts (TopUp p m) is order = order
 order-kept scheme acts (Issue m) is order = order
+order-kept scheme acts (Revise s d m) is order = order
 
 -- an accepted reply found no refusal
 pub accepted_unrefused : (scheme : Scheme) (acts : List Act) (act : Act) (found : Option Refusal) →
@@ -117,33 +122,42 @@ accepted_unrefused scheme acts act (Some Backwards) is = absurd (cc)
 accepted_unrefused scheme acts act (Some LowBalance) is = absurd (cc)
 accepted_unrefused scheme acts act (Some BadAmount) is = absurd (cc)
 accepted_unrefused scheme acts act (Some OverLimit) is = absurd (cc)
+accepted_unrefused scheme acts act (Some BadDay) is = absurd (cc)
 
-counted-order : (scheme : Scheme) (b : Bool) (j : Judged) (js : List Judged) →
-    (b ≡ true → IsInOrder (travel scheme (j.touch.act ∷ map (λ (j : Judged). j.touch.act) js))) →
-    IsInOrder (travel scheme (map (λ (j : Judged). j.touch.act) js)) →
-    IsInOrder (travel scheme (map (λ (j : Judged). j.touch.act) (cond b (j ∷ js) js)))
-counted-order scheme true j js newest others = newest refl
-counted-order scheme false j js newest others = others
+-- an accepted act keeps travel in order
+pub judge-in_order : (scheme : Scheme) (acts : List Act) (act : Act) → IsInOrder (travel scheme acts) →
+    is_accepted (judge scheme acts act) ≡ true → IsInOrder (travel scheme (act ∷ acts))
+judge-in_order scheme acts act order accepted =
+    let none : refusal scheme (is_issued acts) (travel scheme acts) (balance scheme acts) act ≡ None =
+    accepted_unrefused scheme acts act _ accepted in
+    order-kept scheme acts act
+    (unrefused (terms_for scheme act) (is_issued acts) (is_backwards scheme (travel scheme acts) act)
+    (balance scheme acts) act none).1 order
 
--- accepted travel never goes back
-pub judged-in_order : (scheme : Scheme) (n : ℕ) (judged : List Judged) → AreJudged scheme n judged →
-    IsInOrder (travel scheme (accepted_acts n judged))
-judged-in_order scheme n [] are = tt
-judged-in_order scheme n (j ∷ earlier) are =
-    let acts : List Act = accepted_acts n earlier in
-    let before : IsInOrder (travel scheme acts) = judged-in_order scheme n earlier are.2 in
-    counted-order scheme (counts_for n j) j (filter (counts_for n) earlier)
-    (λ counts.
-    let none : refusal scheme (is_issued acts) (travel scheme acts) (balance scheme acts) j.touch.act ≡ None =
-    accepted_unrefused scheme acts j.touch.act _ (ap is_accepted (sym are.1)
-    ∙ &&-second (j.touch.card == n) (is_accepted j.reply) counts) in
-    order-kept scheme acts j.touch.act
-    (unrefused (terms_for scheme j.touch.act) (is_issued acts) (is_backwards scheme (travel scheme acts) j.touch.act)
-    (balance scheme acts) j.touch.act none).1 before)
-    before
+-- so does an act with the reply that it is given
+after-order : (scheme : Scheme) (acts : List Act) (act : Act) (b : Bool) →
+    (b ≡ true → IsInOrder (travel scheme (act ∷ acts))) → IsInOrder (travel scheme acts) →
+    IsInOrder (travel scheme (cond b (act ∷ acts) acts))
+after-order scheme acts act true newest order = newest refl
+after-order scheme acts act false newest order = order
+
+pub acts_after-in_order : (scheme : Scheme) (acts : List Act) (act : Act) (reply : Reply) →
+    reply ≡ judge scheme acts act → IsInOrder (travel scheme acts) →
+    IsInOrder (travel scheme (acts_after acts act reply))
+acts_after-in_order scheme acts act reply is order =
+    after-order scheme acts act (is_accepted reply)
+    (λ accepted. judge-in_order scheme acts act order (ap is_accepted (sym is) ∙ accepted)) order
 
 ==-same : (n : ℕ) → (n == n) ≡ true
 ==-same n = grind (arith, nat_tests)
+
+-- a touch that is no revision is of its card
+of_own : (b : Bool) (n : ℕ) → b ≡ false → (not b && (n == n)) ≡ true
+of_own true n is = absurd (cc)
+of_own false n is = ==-same n
+
+pub is_of-own : (t : Touch) → is_revision t.act ≡ false → IsTrue (is_of t.card t)
+is_of-own t is = of_own (is_revision t.act) t.card is
 
 -- a touch of the card counts where it was accepted
 newest_act : (of_card is_new : Bool) (j : Judged) (js : List Judged) → of_card ≡ true →
@@ -154,16 +168,27 @@ newest_act true false j js is = refl
 newest_act false is_new j js is = absurd (cc)
 
 -- one touch of the card more: it is the newest accepted act, or nothing
-pub accepted-append : (n : ℕ) (history : List Judged) (j : Judged) → j.touch.card ≡ n →
+pub accepted-append : (n : ℕ) (history : List Judged) (j : Judged) → IsTrue (is_of n j.touch) →
     accepted n (history ++ j ∷ []) ≡ acts_after (accepted n history) j.touch.act j.reply
 accepted-append n history j is =
     ap (accepted_acts n) (reverse-append history (j ∷ []))
-    ∙ newest_act (j.touch.card == n) (is_accepted j.reply) j (filter (counts_for n) (reverse history))
-    (ap (λ k. k == n) is ∙ ==-same n)
+    ∙ newest_act (is_of n j.touch) (is_accepted j.reply) j (filter (counts_for n) (reverse history)) is
 
--- and the history with it is judged, where its reply is the judgement
-pub judged-append : (scheme : Scheme) (n : ℕ) (history : List Judged) (j : Judged) → j.touch.card ≡ n →
-    j.reply ≡ judge scheme (accepted n history) j.touch.act → AreJudged scheme n (reverse history) →
-    AreJudged scheme n (reverse (history ++ j ∷ []))
-judged-append scheme n history j is reply_is are =
-    subst (AreJudged scheme n) (sym (reverse-append history (j ∷ []))) (is, reply_is, are)
+-- a refused touch, of whatever card, doesn't count
+uncounted : (of_card new : Bool) (j : Judged) (js : List Judged) → new ≡ false →
+    map (λ (j : Judged). j.touch.act) (cond (of_card && new) (j ∷ js) js) ≡ map (λ (j : Judged). j.touch.act) js
+uncounted of_card true j js is = absurd (cc)
+uncounted true false j js is = refl
+uncounted false false j js is = refl
+
+pub accepted-refused : (n : ℕ) (history : List Judged) (j : Judged) → is_accepted j.reply ≡ false →
+    accepted n (history ++ j ∷ []) ≡ accepted n history
+accepted-refused n history j is =
+    ap (accepted_acts n) (reverse-append history (j ∷ []))
+    ∙ uncounted (is_of n j.touch) (is_accepted j.reply) j (filter (counts_for n) (reverse history)) is
+
+-- and the touches with it are the card's
+pub own-append : (n : ℕ) (history : List Judged) (j : Judged) → IsTrue (is_of n j.touch) → AreOf n history →
+    AreOf n (history ++ j ∷ [])
+own-append n [] j is own = (is, tt)
+own-append n (k ∷ history) j is own = (own.0, own-append n history j is own.1)

@@ -1,19 +1,22 @@
 -- The laws of the definitions.
-use Rattle.std.proofs.Common.{◌≡◌, ℕ, ◌+◌, Bool, true, false, not, ◌&&◌, ◌||◌, ◌==◌, cond, List, [], ◌∷◌, Option, Some, None, refl, sym, ap, ◌∙◌, reverse, map, filter, inl, inr, arith}
+use Rattle.std.proofs.Common.{◌≡◌, ℕ, ◌+◌, Bool, true, false, not, ◌&&◌, ◌||◌, cond, List, [], ◌∷◌, Option, Some, None, refl, sym, ap, ◌∙◌, reverse, map, filter, arith}
 use Rattle.std.specs.Prelude.{count_by}
-use Rattle.std.proofs.lemmas.Bool.{cases_Bool, eqb-true}
 use Rattle.std.proofs.lemmas.List.{reverse-append}
 use Rattle.oyster_account.specs.declared.reply.Judged.{Judged}
-use Rattle.oyster_account.specs.Travel.{Tap, In, Out}
+use Rattle.oyster_account.specs.Travel.{Tap, In, Out, travel}
 use Rattle.oyster_account.specs.Leg.{is_in_time}
 use Rattle.oyster_account.specs.Classes.{IsInOneClass, missing_charges, IsIncompleteMissing}
 use Rattle.oyster_account.specs.Charge.{entry_charge, exit_charge, incomplete_charge}
 use Rattle.oyster_account.specs.Scheme.{Scheme}
+use Rattle.oyster_account.specs.Touch.{is_of}
 use Rattle.oyster_account.specs.History.{is_accepted, counts_for, accepted_acts}
-use Rattle.oyster_account.specs.Laws.{NeverGoesBack, AreOthersNothing, AreTablesPriced, DoLegsTakeNothing, judged_next, DoRefusalsChangeNothing}
-use Rattle.oyster_account.proofs.AccountLemmas.{fares-priced, judge-refund}
-use Rattle.oyster_account.proofs.HistoryLemmas.{judged-in_order}
-use Rattle.oyster_account.proofs.StandingLemmas.{refused-nothing}
+use Rattle.oyster_account.specs.Laws.{NeverGoesBack, DoRevisionsKeep, IsViewKept, IsRevisionAhead, AreOthersNothing}
+use Rattle.oyster_account.specs.Laws.{AreTablesPriced, DoLegsTakeNothing, judged_next, DoRefusalsChangeNothing}
+use Rattle.oyster_account.proofs.AccountLemmas.{schedule-priced, judge-refund}
+use Rattle.oyster_account.proofs.HistoryLemmas.{judge-in_order}
+use Rattle.oyster_account.proofs.StandingLemmas.{stands-revised, refused-nothing}
+use Rattle.oyster_account.proofs.ScheduleLemmas.{revision-ahead}
+use Rattle.oyster_account.proofs.AgreementLemmas.{order-before, view-agrees}
 
 begins : (in_time : Bool) → count_by (λ class. class) (in_time ∷ false ∷ not in_time ∷ false ∷ false ∷ []) ≡ 1
 begins true = refl
@@ -38,7 +41,18 @@ one-class scheme (Some (Out d)) (Out b) (Out c ∷ taps) = refl
 one-class scheme (Some (Out d)) (Out b) (In a ∷ taps) = ends (is_in_time scheme a b)
 
 pub never-back : NeverGoesBack
-never-back scheme card history are = judged-in_order scheme card (reverse history) are
+never-back scheme acts act order accepted = judge-in_order scheme acts act order accepted
+
+pub revisions-keep : DoRevisionsKeep
+revisions-keep day scheme revised number history card agree newest stands =
+    stands-revised day scheme revised number history card agree newest stands
+
+pub ahead : IsRevisionAhead
+ahead scheme history day card good = revision-ahead scheme day card history good
+
+pub view-kept : IsViewKept
+view-kept day scheme revised acts agree order newest =
+    view-agrees day scheme revised agree acts (order-before day (travel scheme acts) order newest)
 
 -- a touch that isn't of the card doesn't count
 not-own : (own new : Bool) (j : Judged) (js : List Judged) → own ≡ false →
@@ -48,13 +62,8 @@ not-own false new j js is = refl
 
 pub others-nothing : AreOthersNothing
 others-nothing card history j other =
-    let apart : (j.touch.card == card) ≡ false =
-    elim (cases_Bool (j.touch.card == card)) [
-      | inl p ↦ absurd (other (eqb-true j.touch.card card p))
-      | inr q ↦ q
-    ] in
     ap (accepted_acts card) (reverse-append history (j ∷ []))
-    ∙ not-own (j.touch.card == card) (is_accepted j.reply) j (filter (counts_for card) (reverse history)) apart
+    ∙ not-own (is_of card j.touch) (is_accepted j.reply) j (filter (counts_for card) (reverse history)) other
 
 module _ (scheme : Scheme) where
   -- a touch out comes after no touch in that begins a leg
@@ -89,11 +98,11 @@ pub incomplete-missing : IsIncompleteMissing
 incomplete-missing scheme taps = sym (missing-are scheme None taps tt)
 
 pub tables-priced : AreTablesPriced
-tables-priced fares = fares-priced fares
+tables-priced schedule = schedule-priced schedule
 
 pub legs-take_nothing : DoLegsTakeNothing
 legs-take_nothing scheme acts act priced is = judge-refund scheme priced acts act is
 
 pub refusals-change_nothing : DoRefusalsChangeNothing
 refusals-change_nothing scheme history touch refused =
-    refused-nothing scheme touch.card history (judged_next scheme history touch) refl refl refused
+    refused-nothing scheme touch.card history (judged_next scheme history touch) refl refused

@@ -1,13 +1,12 @@
 -- What a card keeps of its travel, and which travel it stands for. Lists are newest first.
-use Rattle.std.specs.Prelude.{◌≡◌, ℕ, ◌+◌, ◌*◌, ◌≤◌, List, [], ◌∷◌, Bool, true, false, IsTrue}
+use Rattle.std.specs.Prelude.{◌≡◌, ℕ, ◌+◌, ◌*◌, ◌≤◌, List, [], ◌∷◌, Bool, true, false}
 use Rattle.std.specs.Option.{ForSome}
 use Rattle.fare_table.specs.declared.key.TheConstants.{HIGHEST_PRICE}
-use Rattle.oyster_account.specs.declared.travel.Passage.{Passage}
 use Rattle.oyster_account.specs.declared.travels.Newest.{Newest}
 use Rattle.oyster_account.specs.declared.travels.Newest.TheVariants.{Nowhere, Inside, Outside}
 use Rattle.oyster_account.specs.declared.travels.Travels.{Travels}
 use Rattle.oyster_account.specs.Scheme.{Scheme}
-use Rattle.oyster_account.specs.Travel.{Tap, In, Out}
+use Rattle.oyster_account.specs.Travel.{Tap, In, Out, IsKnown}
 use Rattle.oyster_account.specs.Leg.{ends_leg}
 use Rattle.oyster_account.specs.Journey.{continues, start_of, journeys}
 use Rattle.oyster_account.specs.Charge.{caps_on, maximum_at, incomplete_charge}
@@ -47,10 +46,6 @@ abbrev pub is_inside : Newest → Bool
 is_inside Nowhere = false
 is_inside (Inside start continued) = true
 is_inside (Outside finish ended) = false
-
--- the station of a passage is known on its fare day
-abbrev pub IsKnown : Scheme → Passage → Type 0
-IsKnown scheme passage = IsTrue ((scheme.on passage.stamp.day).knows passage.station)
 
 -- the station of a touch in that is open is known
 abbrev pub IsNewestKnown : Scheme → Newest → Type 0

@@ -2,10 +2,9 @@
 
 ghost use Rattle.std.specs.Prelude.{◌≡◌, negsuc, pos, ◌^◌, ◌≤ℤ◌, ◌+◌, ◌<◌, ℕ, false, true};
 ghost use Rattle.std.specs.Prelude.{List, [], ◌∷◌};
-ghost use Rattle.fare_table.specs.Fares.{content_of};
 ghost use Rattle.oyster_account.specs.declared.touch.Act.{Act};
 ghost use Rattle.oyster_account.specs.Touch.{moment_of};
-ghost use Rattle.oyster_account.specs.Scheme.{Scheme, scheme_of, terms_of};
+ghost use Rattle.oyster_account.specs.Scheme.{Scheme, scheme_of};
 ghost use Rattle.oyster_account.specs.Travel.{travel};
 ghost use Rattle.oyster_account.specs.Charge.{travel_charge};
 ghost use Rattle.oyster_account.specs.History.{is_accepted};
@@ -17,10 +16,10 @@ ghost use Rattle.oyster_account.specs.Judge.{acceptance};
 use crate::refusal::refusal_by;
 use crate::reply::{CardState, CardView, Reply};
 use crate::touch::Act;
-use crate::travel::Passage;
+use crate::travel::{Passage, fares_for};
 use crate::travels::Travels;
 use crate::verdict::Acceptance;
-use fare_table::Fares;
+use fare_schedule::Schedule;
 use money_time::Stamp;
 
 /// What a card's accepted acts come to. A further one changes it in place.
@@ -58,31 +57,32 @@ impl Account {
     }
 
     /// Judges an act. The stamp is that of its moment.
-    pub fn judge(&self, fares: &Fares, act: Act, stamp: &Stamp) -> Judgement
-        requires stamped { stamp.now ≡ (scheme_of fares.now).stamp (moment_of act) }
-        requires safe { IsAccountSafe (scheme_of fares.now) 1_000_000 self.now }
-        requires stands { (acts : List Act) × IsInOrder (travel (scheme_of fares.now) acts)
-            × IsAccountOf (scheme_of fares.now) acts self.now }
-        ensures of { (acts : List Act) → IsInOrder (travel (scheme_of fares.now) acts)
-            → IsAccountOf (scheme_of fares.now) acts self.now
-            → IsJudgementOf (scheme_of fares.now) acts act result }
+    pub fn judge(&self, schedule: &Schedule, act: Act, stamp: &Stamp) -> Judgement
+        requires stamped { stamp.now ≡ (scheme_of schedule.now).stamp (moment_of act) }
+        requires safe { IsAccountSafe (scheme_of schedule.now) 1_000_000 self.now }
+        requires stands { (acts : List Act) × IsInOrder (travel (scheme_of schedule.now) acts)
+            × IsAccountOf (scheme_of schedule.now) acts self.now }
+        ensures of { (acts : List Act) → IsInOrder (travel (scheme_of schedule.now) acts)
+            → IsAccountOf (scheme_of schedule.now) acts self.now
+            → IsJudgementOf (scheme_of schedule.now) acts act result }
         ensures sound { is_accepted result.reply ≡ true
-            → IsSound (terms_of (content_of fares.now)) act }
+            → IsSound ((scheme_of schedule.now).on stamp.now.day) act }
     {
-        let balance = self.balance(fares);
+        let balance = self.balance(schedule);
         let backwards = self.is_backwards(act, stamp);
+        let fares = fares_for(schedule, *stamp);
         match refusal_by(fares, self.issued, backwards, balance, act) {
             Some(refusal) => {
-                let view = self.view(fares);
+                let view = self.view(schedule);
                 Judgement {
                     reply: Reply::refused(refusal, view.balance),
                     view,
                 }
             }
             None => {
-                let acceptance = self.acceptance(fares, act, stamp);
+                let acceptance = self.acceptance(schedule, act, stamp);
                 let state = self.state_with(act);
-                let new = self.balance_with(fares, act, stamp);
+                let new = self.balance_with(schedule, act, stamp);
                 Judgement {
                     reply: Reply::granted(acceptance, balance, new),
                     view: CardView {
@@ -95,38 +95,38 @@ impl Account {
     }
 
     /// Takes an act where its reply accepts it. The stamp is that of its moment.
-    pub fn take(&mut self, fares: &Fares, act: Act, stamp: &Stamp, reply: &Reply)
-        requires stamped { stamp.now ≡ (scheme_of fares.now).stamp (moment_of act) }
+    pub fn take(&mut self, schedule: &Schedule, act: Act, stamp: &Stamp, reply: &Reply)
+        requires stamped { stamp.now ≡ (scheme_of schedule.now).stamp (moment_of act) }
         requires sound { is_accepted reply.now ≡ true
-            → IsSound (terms_of (content_of fares.now)) act }
-        requires safe { IsAccountSafe (scheme_of fares.now) 1_000_000 self.old }
-        ensures of { (acts : List Act) → IsInOrder (travel (scheme_of fares.now) acts)
-            → IsAccountOf (scheme_of fares.now) acts self.old
-            → IsAccountOf (scheme_of fares.now) (acts_after acts act reply.now) self.new }
-        ensures safe { (count : ℕ) → IsAccountSafe (scheme_of fares.now) count self.old
-            → IsAccountSafe (scheme_of fares.now) (count + 1) self.new }
+            → IsSound ((scheme_of schedule.now).on stamp.now.day) act }
+        requires safe { IsAccountSafe (scheme_of schedule.now) 1_000_000 self.old }
+        ensures of { (acts : List Act) → IsInOrder (travel (scheme_of schedule.now) acts)
+            → IsAccountOf (scheme_of schedule.now) acts self.old
+            → IsAccountOf (scheme_of schedule.now) (acts_after acts act reply.now) self.new }
+        ensures safe { (count : ℕ) → IsAccountSafe (scheme_of schedule.now) count self.old
+            → IsAccountSafe (scheme_of schedule.now) (count + 1) self.new }
     {
         if reply.is_accepted() {
-            self.add(fares, act, stamp);
+            self.add(schedule, act, stamp);
         }
     }
 
     /// The balance, in pence.
-    fn balance(&self, fares: &Fares) -> i64
-        requires safe { IsAccountSafe (scheme_of fares.now) 1_000_001 self.now }
-        ensures value { (acts : List Act) → IsAccountOf (scheme_of fares.now) acts self.now
-            → result ≡ balance (scheme_of fares.now) acts }
+    fn balance(&self, schedule: &Schedule) -> i64
+        requires safe { IsAccountSafe (scheme_of schedule.now) 1_000_001 self.now }
+        ensures value { (acts : List Act) → IsAccountOf (scheme_of schedule.now) acts self.now
+            → result ≡ balance (scheme_of schedule.now) acts }
         ensures low { negsuc (2 ^ 62) ≤ℤ result }
         ensures high { result ≤ℤ pos (2 ^ 62) }
     {
-        self.paid as i64 - self.travels.charge(fares) as i64
+        self.paid as i64 - self.travels.charge(schedule) as i64
     }
 
     /// What is seen of the card.
-    fn view(&self, fares: &Fares) -> CardView
-        requires safe { IsAccountSafe (scheme_of fares.now) 1_000_001 self.now }
-        ensures { (acts : List Act) → IsAccountOf (scheme_of fares.now) acts self.now
-            → result ≡ view (scheme_of fares.now) acts }
+    fn view(&self, schedule: &Schedule) -> CardView
+        requires safe { IsAccountSafe (scheme_of schedule.now) 1_000_001 self.now }
+        ensures { (acts : List Act) → IsAccountOf (scheme_of schedule.now) acts self.now
+            → result ≡ view (scheme_of schedule.now) acts }
     {
         if !self.issued {
             return CardView {
@@ -136,22 +136,22 @@ impl Account {
         }
         CardView {
             state: self.state(),
-            balance: self.balance(fares),
+            balance: self.balance(schedule),
         }
     }
 
     /// The balance once `add` has added an act, in pence.
-    fn balance_with(&self, fares: &Fares, act: Act, stamp: &Stamp) -> i64
-        requires stamped { stamp.now ≡ (scheme_of fares.now).stamp (moment_of act) }
-        requires sound { IsSound (terms_of (content_of fares.now)) act }
-        requires safe { IsAccountSafe (scheme_of fares.now) 1_000_000 self.now }
-        ensures value { (acts : List Act) → IsInOrder (travel (scheme_of fares.now) acts)
-            → IsAccountOf (scheme_of fares.now) acts self.now
-            → result ≡ balance (scheme_of fares.now) (act ∷ acts) }
+    fn balance_with(&self, schedule: &Schedule, act: Act, stamp: &Stamp) -> i64
+        requires stamped { stamp.now ≡ (scheme_of schedule.now).stamp (moment_of act) }
+        requires sound { IsSound ((scheme_of schedule.now).on stamp.now.day) act }
+        requires safe { IsAccountSafe (scheme_of schedule.now) 1_000_000 self.now }
+        ensures value { (acts : List Act) → IsInOrder (travel (scheme_of schedule.now) acts)
+            → IsAccountOf (scheme_of schedule.now) acts self.now
+            → result ≡ balance (scheme_of schedule.now) (act ∷ acts) }
         ensures low { negsuc (2 ^ 62) ≤ℤ result }
         ensures high { result ≤ℤ pos (2 ^ 62) }
     {
-        self.paid_with(act) as i64 - self.charge_with(fares, act, stamp) as i64
+        self.paid_with(act) as i64 - self.charge_with(schedule, act, stamp) as i64
     }
 
     /// What was paid in once `add` has added an act.
@@ -161,29 +161,32 @@ impl Account {
     {
         match act {
             Act::TopUp { pence, .. } => u64::from(pence) + self.paid,
-            Act::Enter { .. } | Act::Leave { .. } | Act::Issue { .. } => self.paid,
+            Act::Enter { .. } | Act::Leave { .. } | Act::Issue { .. } | Act::Revise { .. } =>
+                self.paid,
         }
     }
 
     /// What the travel is charged once `add` has added an act.
-    fn charge_with(&self, fares: &Fares, act: Act, stamp: &Stamp) -> u64
-        requires stamped { stamp.now ≡ (scheme_of fares.now).stamp (moment_of act) }
-        requires sound { IsSound (terms_of (content_of fares.now)) act }
-        requires safe { IsAccountSafe (scheme_of fares.now) 1_000_000 self.now }
-        ensures value { (acts : List Act) → IsInOrder (travel (scheme_of fares.now) acts)
-            → IsAccountOf (scheme_of fares.now) acts self.now
-            → result ≡ travel_charge (scheme_of fares.now)
-            (travel (scheme_of fares.now) (act ∷ acts)) }
+    fn charge_with(&self, schedule: &Schedule, act: Act, stamp: &Stamp) -> u64
+        requires stamped { stamp.now ≡ (scheme_of schedule.now).stamp (moment_of act) }
+        requires sound { IsSound ((scheme_of schedule.now).on stamp.now.day) act }
+        requires safe { IsAccountSafe (scheme_of schedule.now) 1_000_000 self.now }
+        ensures value { (acts : List Act) → IsInOrder (travel (scheme_of schedule.now) acts)
+            → IsAccountOf (scheme_of schedule.now) acts self.now
+            → result ≡ travel_charge (scheme_of schedule.now)
+            (travel (scheme_of schedule.now) (act ∷ acts)) }
         ensures limit { result < 2 ^ 61 }
     {
         match act {
             Act::Enter { station, .. } => self
                 .travels
-                .charge_with_entry(fares, passage(station, stamp)),
+                .charge_with_entry(schedule, passage(station, stamp)),
             Act::Leave { station, .. } => self
                 .travels
-                .charge_with_exit(fares, passage(station, stamp)),
-            Act::TopUp { .. } | Act::Issue { .. } => self.travels.charge(fares),
+                .charge_with_exit(schedule, passage(station, stamp)),
+            Act::TopUp { .. } => self.travels.charge(schedule),
+            Act::Issue { .. } => self.travels.charge(schedule),
+            Act::Revise { .. } => self.travels.charge(schedule),
         }
     }
 
@@ -197,6 +200,7 @@ impl Account {
             Act::Leave { .. } => CardState::Outside,
             Act::TopUp { .. } => self.state(),
             Act::Issue { .. } => self.state(),
+            Act::Revise { .. } => self.state(),
         }
     }
 
@@ -213,21 +217,22 @@ impl Account {
     }
 
     /// Adds an accepted act. The stamp is that of its moment.
-    fn add(&mut self, fares: &Fares, act: Act, stamp: &Stamp)
-        requires stamped { stamp.now ≡ (scheme_of fares.now).stamp (moment_of act) }
-        requires sound { IsSound (terms_of (content_of fares.now)) act }
-        requires safe { IsAccountSafe (scheme_of fares.now) 1_000_000 self.old }
-        ensures of { (acts : List Act) → IsInOrder (travel (scheme_of fares.now) acts)
-            → IsAccountOf (scheme_of fares.now) acts self.old
-            → IsAccountOf (scheme_of fares.now) (act ∷ acts) self.new }
-        ensures safe { (count : ℕ) → IsAccountSafe (scheme_of fares.now) count self.old
-            → IsAccountSafe (scheme_of fares.now) (count + 1) self.new }
+    fn add(&mut self, schedule: &Schedule, act: Act, stamp: &Stamp)
+        requires stamped { stamp.now ≡ (scheme_of schedule.now).stamp (moment_of act) }
+        requires sound { IsSound ((scheme_of schedule.now).on stamp.now.day) act }
+        requires safe { IsAccountSafe (scheme_of schedule.now) 1_000_000 self.old }
+        ensures of { (acts : List Act) → IsInOrder (travel (scheme_of schedule.now) acts)
+            → IsAccountOf (scheme_of schedule.now) acts self.old
+            → IsAccountOf (scheme_of schedule.now) (act ∷ acts) self.new }
+        ensures safe { (count : ℕ) → IsAccountSafe (scheme_of schedule.now) count self.old
+            → IsAccountSafe (scheme_of schedule.now) (count + 1) self.new }
     {
         match act {
-            Act::Enter { station, .. } => self.travels.enter(fares, passage(station, stamp)),
-            Act::Leave { station, .. } => self.travels.leave(fares, passage(station, stamp)),
+            Act::Enter { station, .. } => self.travels.enter(schedule, passage(station, stamp)),
+            Act::Leave { station, .. } => self.travels.leave(schedule, passage(station, stamp)),
             Act::TopUp { pence, .. } => self.paid += u64::from(pence),
             Act::Issue { .. } => self.issued = true,
+            Act::Revise { .. } => {}
         }
     }
 
@@ -243,27 +248,30 @@ impl Account {
             Act::Enter { station, .. } | Act::Leave { station, .. } => {
                 self.travels.is_backwards(passage(station, stamp))
             }
-            Act::TopUp { .. } | Act::Issue { .. } => false,
+            Act::TopUp { .. } | Act::Issue { .. } | Act::Revise { .. } => false,
         }
     }
 
     /// What an accepted act is.
-    fn acceptance(&self, fares: &Fares, act: Act, stamp: &Stamp) -> Acceptance
-        requires stamped { stamp.now ≡ (scheme_of fares.now).stamp (moment_of act) }
-        requires sound { IsSound (terms_of (content_of fares.now)) act }
-        requires safe { IsAccountSafe (scheme_of fares.now) 1_000_000 self.now }
-        ensures { (acts : List Act) → IsAccountOf (scheme_of fares.now) acts self.now
-            → result ≡ acceptance (scheme_of fares.now) (travel (scheme_of fares.now) acts) act }
+    fn acceptance(&self, schedule: &Schedule, act: Act, stamp: &Stamp) -> Acceptance
+        requires stamped { stamp.now ≡ (scheme_of schedule.now).stamp (moment_of act) }
+        requires sound { IsSound ((scheme_of schedule.now).on stamp.now.day) act }
+        requires safe { IsAccountSafe (scheme_of schedule.now) 1_000_000 self.now }
+        ensures { (acts : List Act) → IsAccountOf (scheme_of schedule.now) acts self.now
+            → result ≡ acceptance (scheme_of schedule.now)
+            (travel (scheme_of schedule.now) acts) act }
     {
         match act {
             Act::Enter { station, .. } => self
                 .travels
-                .entry_acceptance(fares, passage(station, stamp)),
+                .entry_acceptance(schedule, passage(station, stamp)),
             Act::Leave { station, .. } => {
-                self.travels.exit_acceptance(fares, passage(station, stamp))
+                self.travels
+                    .exit_acceptance(schedule, passage(station, stamp))
             }
             Act::TopUp { .. } => Acceptance::ToppedUp,
             Act::Issue { .. } => Acceptance::Issued,
+            Act::Revise { .. } => Acceptance::Revised,
         }
     }
 }

@@ -6,7 +6,7 @@ ghost use Rattle.oyster_account.specs.declared.card.TheConstants.{HISTORY_LIMIT}
 use crate::account::{Account, Judgement};
 use crate::reply::{CardState, CardView, Reply};
 use crate::touch::Touch;
-use fare_table::Fares;
+use fare_schedule::Schedule;
 use money_time::Stamp;
 use std::alloc::{AllocError, Global};
 
@@ -39,7 +39,7 @@ impl Card {
     ghost use Rattle.oyster_account.specs.History.{accepted, is_accepted};
     ghost use Rattle.oyster_account.specs.Balance.{view};
     ghost use Rattle.oyster_account.specs.Judge.{judge, ChangesNothing};
-    ghost use Rattle.oyster_account.specs.Touch.{moment_of};
+    ghost use Rattle.oyster_account.specs.Touch.{moment_of, is_revision};
     ghost use Rattle.oyster_account.specs.Verdict.{acceptance_code};
     ghost use Rattle.oyster_account.specs.declared.verdict.Acceptance.TheVariants.{Exited};
     ghost use Rattle.oyster_account.specs.Standing.{StandsFor, HasRoom, touches_in};
@@ -86,35 +86,36 @@ impl Card {
 
     /// The reply to a touch of this card, and what would be seen of the card after it.
     ///
-    /// The stamp is that of the touch's moment. The card's earlier touches were judged with the
-    /// same table, had the same card number, and are fewer than `HISTORY_LIMIT`. The reply is that
+    /// The stamp is that of the touch's moment. The touch is no revision. The card's earlier
+    /// touches had the same card number, and are fewer than `HISTORY_LIMIT`. The reply is that
     /// of docs/FARES.md, "Verdicts". It takes no memory.
-    pub fn judge(&self, fares: &Fares, touch: &Touch, stamp: &Stamp) -> (Reply, CardView)
+    pub fn judge(&self, schedule: &Schedule, touch: &Touch, stamp: &Stamp) -> (Reply, CardView)
         requires few { touches_in self.now < HISTORY_LIMIT }
-        requires stamped { stamp.now ≡ (scheme_of fares.now).stamp (moment_of touch.now.act) }
+        requires of_card { is_revision touch.now.act ≡ false }
+        requires stamped { stamp.now ≡ (scheme_of schedule.now).stamp (moment_of touch.now.act) }
         requires stands { (history : List Judged)
-            × StandsFor (scheme_of fares.now) touch.now.card history self.now }
+            × StandsFor (scheme_of schedule.now) touch.now.card history self.now }
         ensures reply { (history : List Judged)
-            → StandsFor (scheme_of fares.now) touch.now.card history self.now
-            → result.0 ≡ judge (scheme_of fares.now)
+            → StandsFor (scheme_of schedule.now) touch.now.card history self.now
+            → result.0 ≡ judge (scheme_of schedule.now)
             (accepted touch.now.card history) touch.now.act }
         ensures view { (history : List Judged)
-            → StandsFor (scheme_of fares.now) touch.now.card history self.now
-            → result.1 ≡ view (scheme_of fares.now)
+            → StandsFor (scheme_of schedule.now) touch.now.card history self.now
+            → result.1 ≡ view (scheme_of schedule.now)
             (accepted touch.now.card
             (history ++ record { touch = touch.now; reply = result.0 } ∷ [])) }
 
         // A refused touch changes nothing.
         ensures refused { (history : List Judged)
-            → StandsFor (scheme_of fares.now) touch.now.card history self.now
+            → StandsFor (scheme_of schedule.now) touch.now.card history self.now
             → is_accepted result.0 ≡ false
-            → ChangesNothing (view (scheme_of fares.now) (accepted touch.now.card history))
+            → ChangesNothing (view (scheme_of schedule.now) (accepted touch.now.card history))
             result.1 result.0 }
 
         // A touch out that ends a leg takes nothing from the card.
         ensures refund { result.0.verdict ≡ acceptance_code Exited → pos 0 ≤ℤ result.0.change }
     {
-        let judgement = self.account.judge(fares, touch.act, stamp);
+        let judgement = self.account.judge(schedule, touch.act, stamp);
         (judgement.reply, judgement.view)
     }
 
@@ -123,34 +124,36 @@ impl Card {
     ///
     /// The conditions are those of `judge`, and that there is room: `ready` makes it. It takes no
     /// memory.
-    pub fn apply(&mut self, fares: &Fares, touch: &Touch, stamp: &Stamp) -> Reply
+    pub fn apply(&mut self, schedule: &Schedule, touch: &Touch, stamp: &Stamp) -> Reply
         requires few { touches_in self.old < HISTORY_LIMIT }
-        requires stamped { stamp.now ≡ (scheme_of fares.now).stamp (moment_of touch.now.act) }
+        requires of_card { is_revision touch.now.act ≡ false }
+        requires stamped { stamp.now ≡ (scheme_of schedule.now).stamp (moment_of touch.now.act) }
         requires room { HasRoom self.old }
         requires stands { (history : List Judged)
-            × StandsFor (scheme_of fares.now) touch.now.card history self.old }
+            × StandsFor (scheme_of schedule.now) touch.now.card history self.old }
         ensures reply { (history : List Judged)
-            → StandsFor (scheme_of fares.now) touch.now.card history self.old
-            → result ≡ judge (scheme_of fares.now) (accepted touch.now.card history) touch.now.act }
+            → StandsFor (scheme_of schedule.now) touch.now.card history self.old
+            → result ≡ judge (scheme_of schedule.now)
+            (accepted touch.now.card history) touch.now.act }
         ensures count { touches_in self.new ≡ touches_in self.old + 1 }
         ensures stands { (history : List Judged)
-            → StandsFor (scheme_of fares.now) touch.now.card history self.old
-            → StandsFor (scheme_of fares.now) touch.now.card
+            → StandsFor (scheme_of schedule.now) touch.now.card history self.old
+            → StandsFor (scheme_of schedule.now) touch.now.card
             (history ++ record { touch = touch.now; reply = result } ∷ []) self.new }
 
         // A refused touch changes nothing.
         ensures refused { (history : List Judged)
-            → StandsFor (scheme_of fares.now) touch.now.card history self.old
+            → StandsFor (scheme_of schedule.now) touch.now.card history self.old
             → is_accepted result ≡ false
-            → ChangesNothing (view (scheme_of fares.now) (accepted touch.now.card history))
-            (view (scheme_of fares.now) (accepted touch.now.card
+            → ChangesNothing (view (scheme_of schedule.now) (accepted touch.now.card history))
+            (view (scheme_of schedule.now) (accepted touch.now.card
             (history ++ record { touch = touch.now; reply = result } ∷ []))) result }
 
         // A touch out that ends a leg takes nothing from the card.
         ensures refund { result.verdict ≡ acceptance_code Exited → pos 0 ≤ℤ result.change }
     {
-        let Judgement { reply, view } = self.account.judge(fares, touch.act, stamp);
-        self.account.take(fares, touch.act, stamp, &reply);
+        let Judgement { reply, view } = self.account.judge(schedule, touch.act, stamp);
+        self.account.take(schedule, touch.act, stamp, &reply);
         self.count += 1;
         self.view = view;
         reply

@@ -3,6 +3,7 @@
 ghost use Rattle.oyster_account.specs.Classes.{IsInOneClass, IsIncompleteMissing};
 ghost use Rattle.oyster_account.specs.Rows.{AreJourneysRows};
 ghost use Rattle.oyster_account.specs.Laws.{NeverGoesBack, AreOthersNothing};
+ghost use Rattle.oyster_account.specs.Laws.{DoRevisionsKeep, IsViewKept, IsRevisionAhead};
 ghost use Rattle.oyster_account.specs.Laws.{AreTablesPriced, DoLegsTakeNothing};
 ghost use Rattle.oyster_account.specs.Laws.{DoRefusalsChangeNothing};
 
@@ -29,13 +30,30 @@ pub fn never_back()
     ensures { NeverGoesBack }
 {}
 
+/// A revision from a day on that no accepted travel of a card has reached leaves the touches, with
+/// their replies, that the card stands for.
+pub fn revisions_keep()
+    ensures { DoRevisionsKeep }
+{}
+
+/// A revision is accepted only from a day on that no card's accepted travel has reached.
+pub fn revisions_are_ahead()
+    ensures { IsRevisionAhead }
+{}
+
+/// A revision from a day on that no accepted travel of a card has reached leaves what is seen of
+/// the card.
+pub fn view_kept()
+    ensures { IsViewKept }
+{}
+
 /// Another card's touches change nothing of a card.
 pub fn others_nothing()
     ensures { AreOthersNothing }
 {}
 
-/// No fare of a fare table is above the maximum of its window, and no maximum is above the highest
-/// price.
+/// On no fare day of a schedule is a fare above the maximum of its window, or a maximum above the
+/// highest price.
 pub fn tables_are_priced()
     ensures { AreTablesPriced }
 {}

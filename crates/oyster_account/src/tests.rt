@@ -8,6 +8,7 @@ ghost use Rattle.oyster_account.specs.Standing.{StandsFor, touches_in};
 
 mod accounts;
 mod plain;
+mod revised;
 mod wanderer;
 mod wide;
 
@@ -15,8 +16,9 @@ use self::plain::{Answer, Plain};
 use self::wanderer::Wanderer;
 use self::wide::WIDE_TABLE;
 use super::*;
+use fare_schedule::Schedule;
 use fare_table::Fares;
-use std::alloc::Global;
+use std::alloc::{AllocError, Global};
 use std::process::Abort;
 use std::test::Fail;
 
@@ -53,27 +55,42 @@ const fn leave(station: u16, moment: u32) -> Act {
     Act::Leave { station, moment }
 }
 
-const fn top_up(pence: u32) -> Act {
-    Act::TopUp {
-        pence,
-        moment: 1_736_150_100,
+/// A revision to the table of a digest from a fare day on.
+const fn revise(day: i32) -> Act {
+    Act::Revise {
+        digest: [
+            0x96, 0xcc, 0x50, 0xb0, 0x39, 0x6b, 0x0e, 0x93, 0x39, 0x71, 0xad, 0x24, 0x64, 0xa5,
+            0x08, 0xf6, 0x30, 0xc6, 0x46, 0x3f, 0x90, 0xc3, 0x22, 0xda, 0x83, 0x93, 0xbc, 0xc1,
+            0xa5, 0x46, 0xa9, 0xbe,
+        ],
+        day,
+        moment: 1_736_150_400,
     }
+}
+
+const fn top_up(pence: u32) -> Act {
+    top_up_at(pence, 1_736_150_100)
+}
+
+const fn top_up_at(pence: u32, moment: u32) -> Act {
+    Act::TopUp { pence, moment }
 }
 
 /// Gives an act to a card of number 1, and to the plain account of it. What is foretold is what is
 /// given, and what the plain account says.
 fn give(
     rt: &impl Abort,
-    fares: &Fares,
+    schedule: &Schedule,
     card: &mut Card,
     plain: &mut Plain,
     act: Act,
 ) -> Result<Answer, Fail>
     requires few { touches_in card.old < 100 }
-    requires stands { (history : List Judged) × StandsFor (scheme_of fares.now) 1 history card.old }
+    requires stands { (history : List Judged)
+        × StandsFor (scheme_of schedule.now) 1 history card.old }
     ensures count { OnOk result (touches_in card.new ≡ touches_in card.old + 1) }
     ensures stands { OnOk result ((history : List Judged)
-        × StandsFor (scheme_of fares.now) 1 history card.new) }
+        × StandsFor (scheme_of schedule.now) 1 history card.new) }
 {
     let touch = Touch {
         gate: 7,
@@ -81,11 +98,14 @@ fn give(
         card: 1,
         act,
     };
-    let stamp = fares.stamp(touch.moment())?;
+    if touch.is_revision() {
+        return Err(AllocError.into());
+    }
+    let stamp = schedule.stamp(touch.moment())?;
     card.ready()?;
     assert!(rt; card.has_room());
-    let (foretold, seen) = card.judge(fares, &touch, &stamp);
-    let reply = card.apply(fares, &touch, &stamp);
+    let (foretold, seen) = card.judge(schedule, &touch, &stamp);
+    let reply = card.apply(schedule, &touch, &stamp);
     assert_eq!(rt; foretold, reply, "at {act:?}");
     assert_eq!(rt; card.view(), seen, "at {act:?}");
     let answer = Answer {
@@ -96,7 +116,7 @@ fn give(
     };
     assert_eq!(rt; seen.balance, answer.balance, "at {act:?}");
     assert_eq!(rt;
-        plain.give(fares, act, stamp)?,
+        plain.give(schedule, act, stamp)?,
         answer,
         "at {stamp:?} {act:?}"
     );
@@ -106,20 +126,21 @@ fn give(
 /// Gives acts to a card of number 1 in turn, and compares the answers.
 fn go_on(
     rt: &impl Abort,
-    fares: &Fares,
+    schedule: &Schedule,
     card: &mut Card,
     plain: &mut Plain,
     steps: &[Step],
 ) -> Result<(), Fail>
     requires few { touches_in card.old + length steps.now < 100 }
-    requires stands { (history : List Judged) × StandsFor (scheme_of fares.now) 1 history card.old }
+    requires stands { (history : List Judged)
+        × StandsFor (scheme_of schedule.now) 1 history card.old }
     ensures count { OnOk result (touches_in card.new ≡ touches_in card.old + length steps.now) }
     ensures stands { OnOk result ((history : List Judged)
-        × StandsFor (scheme_of fares.now) 1 history card.new) }
+        × StandsFor (scheme_of schedule.now) 1 history card.new) }
 {
     for step in steps {
         let (act, verdict, change, balance, state) = *step;
-        let answer = give(rt, fares, card, plain, act)?;
+        let answer = give(rt, schedule, card, plain, act)?;
         let expected = Answer {
             verdict,
             change,
@@ -135,7 +156,7 @@ fn go_on(
 fn play_row(
     rt: &impl Abort,
     alloc: Global,
-    fares: &Fares,
+    schedule: &Schedule,
     first: &[Step],
     row: &[Step],
 ) -> Result<(), Fail>
@@ -144,13 +165,13 @@ fn play_row(
 {
     let mut card = Card::vacant(alloc);
     let mut plain = Plain::new(alloc);
-    go_on(rt, fares, &mut card, &mut plain, first)?;
-    go_on(rt, fares, &mut card, &mut plain, row)?;
+    go_on(rt, schedule, &mut card, &mut plain, first)?;
+    go_on(rt, schedule, &mut card, &mut plain, row)?;
     assert_eq!(rt; card.count() as usize, first.len() + row.len());
     Ok(())
 }
 
-/// Plays each row on a card of its own, after the same first steps.
+/// Plays each row on a card of its own, after the same first steps, by one table.
 fn play(
     rt: &impl Abort,
     alloc: Global,
@@ -158,12 +179,23 @@ fn play(
     first: &[Step],
     rows: &[&[Step]],
 ) -> Result<(), Fail> {
-    let fares = Fares::read(alloc, table)?;
+    let schedule = Schedule::new(alloc, Fares::read(alloc, table)?)?;
+    play_on(rt, alloc, &schedule, first, rows)
+}
+
+/// Plays each row on a card of its own, after the same first steps, by a schedule.
+fn play_on(
+    rt: &impl Abort,
+    alloc: Global,
+    schedule: &Schedule,
+    first: &[Step],
+    rows: &[&[Step]],
+) -> Result<(), Fail> {
     assert!(rt; first.len() < 10);
     for row in rows {
         let row: &[Step] = row;
         assert!(rt; row.len() < 80);
-        play_row(rt, alloc, &fares, first, row)?;
+        play_row(rt, alloc, schedule, first, row)?;
     }
     Ok(())
 }
@@ -172,14 +204,14 @@ fn play(
 fn wander(
     rt: &impl Abort,
     alloc: Global,
-    fares: &Fares,
+    schedule: &Schedule,
     wanderer: &mut Wanderer,
 ) -> Result<(), Fail> {
     let mut card = Card::vacant(alloc);
     let mut plain = Plain::new(alloc);
     for touch in 0..50u32 {
         let act = wanderer.next(touch);
-        let answer = give(rt, fares, &mut card, &mut plain, act)?;
+        let answer = give(rt, schedule, &mut card, &mut plain, act)?;
         wanderer.note(answer.verdict);
     }
     Ok(())
@@ -188,10 +220,10 @@ fn wander(
 #[test]
 fn a_card_answers_as_a_plain_account_does(rt: HostRuntime) -> Result<(), Fail> {
     let alloc = rt.alloc();
-    let fares = Fares::read(alloc, WIDE_TABLE)?;
+    let schedule = Schedule::new(alloc, Fares::read(alloc, WIDE_TABLE)?)?;
     let mut wanderer = Wanderer::new();
     for _ in 0..100 {
-        wander(&rt, alloc, &fares, &mut wanderer)?;
+        wander(&rt, alloc, &schedule, &mut wanderer)?;
         wanderer.turn_to_another_card();
     }
     // Every verdict was given but that of a table with no such card.
@@ -224,8 +256,9 @@ fn a_reply_has_the_code_of_its_verdict(rt: HostRuntime) {
         Acceptance::ExitedLate,
         Acceptance::ToppedUp,
         Acceptance::Issued,
+        Acceptance::Revised,
     ];
-    for (acceptance, verdict) in accepted.into_iter().zip(1..=8) {
+    for (acceptance, verdict) in accepted.into_iter().zip(1..=9) {
         let reply = Reply::granted(acceptance, 1000, 100);
         assert_eq!(rt;
             reply,
@@ -245,8 +278,9 @@ fn a_reply_has_the_code_of_its_verdict(rt: HostRuntime) {
         Refusal::LowBalance,
         Refusal::BadAmount,
         Refusal::OverLimit,
+        Refusal::BadDay,
     ];
-    for (refusal, verdict) in refused.into_iter().zip(20..=26) {
+    for (refusal, verdict) in refused.into_iter().zip(20..=27) {
         let reply = Reply::refused(refusal, -710);
         assert_eq!(rt;
             reply,
@@ -276,7 +310,7 @@ fn a_touch_has_its_bytes_and_is_read_from_them(rt: HostRuntime) {
         card: 1,
         act,
     };
-    let rows: [(Touch, u32, &[u8]); 4] = [
+    let rows: [(Touch, u32, &[u8]); 6] = [
         (
             touch(1, ISSUE),
             1_736_149_800,
@@ -303,13 +337,34 @@ fn a_touch_has_its_bytes_and_is_read_from_them(rt: HostRuntime) {
                 2, 0, 7, 0, 0, 0, 4, 0, 0, 0, 1, 0, 1, 0x67, 0x7b, 0x93, 0x5c,
             ],
         ),
+        (
+            touch(6, revise(20095)),
+            1_736_150_400,
+            &[
+                6, 0, 7, 0, 0, 0, 6, 0, 0, 0, 1, 0x96, 0xcc, 0x50, 0xb0, 0x39, 0x6b, 0x0e, 0x93,
+                0x39, 0x71, 0xad, 0x24, 0x64, 0xa5, 0x08, 0xf6, 0x30, 0xc6, 0x46, 0x3f, 0x90, 0xc3,
+                0x22, 0xda, 0x83, 0x93, 0xbc, 0xc1, 0xa5, 0x46, 0xa9, 0xbe, 0, 0, 0x4e, 0x7f, 0x67,
+                0x7b, 0x8d, 0x80,
+            ],
+        ),
+        (
+            touch(8, revise(-3)),
+            1_736_150_400,
+            &[
+                6, 0, 7, 0, 0, 0, 8, 0, 0, 0, 1, 0x96, 0xcc, 0x50, 0xb0, 0x39, 0x6b, 0x0e, 0x93,
+                0x39, 0x71, 0xad, 0x24, 0x64, 0xa5, 0x08, 0xf6, 0x30, 0xc6, 0x46, 0x3f, 0x90, 0xc3,
+                0x22, 0xda, 0x83, 0x93, 0xbc, 0xc1, 0xa5, 0x46, 0xa9, 0xbe, 0xff, 0xff, 0xff, 0xfd,
+                0x67, 0x7b, 0x8d, 0x80,
+            ],
+        ),
     ];
     for (touch, moment, bytes) in rows {
         assert_eq!(rt; touch.moment(), moment);
-        let mut out = [0xee; 19];
+        assert_eq!(rt; touch.is_revision(), bytes.len() == 51);
+        let mut out = [0xee; 51];
         let length = touch.write_into(&mut out);
         assert_eq!(rt; length, bytes.len());
-        assert!(rt; length <= 19);
+        assert!(rt; length <= 51);
         assert_eq!(rt; &out[..length], bytes);
         assert!(rt; out[length..].iter().all(|byte| *byte == 0xee));
         assert_eq!(rt; Touch::read(bytes), Some((touch, length)));
@@ -322,6 +377,7 @@ fn a_touch_has_its_bytes_and_is_read_from_them(rt: HostRuntime) {
             );
         }
     }
-    assert_eq!(rt; Touch::read(&[0; 19]), None);
-    assert_eq!(rt; Touch::read(&[5; 19]), None);
+    assert_eq!(rt; Touch::read(&[0; 51]), None);
+    assert_eq!(rt; Touch::read(&[5; 51]), None);
+    assert_eq!(rt; Touch::read(&[7; 51]), None);
 }

@@ -1,13 +1,16 @@
 //! A card's passages of the gates.
 
-ghost use Rattle.std.specs.Prelude.{◌≡◌, IsSome};
+ghost use Rattle.std.specs.Prelude.{◌≡◌, is_some, true};
 ghost use Rattle.fare_table.specs.Fare.{station_at};
 ghost use Rattle.fare_table.specs.Fares.{content_of};
+ghost use Rattle.fare_schedule.specs.Schedule.{table_on};
 ghost use Rattle.oyster_account.specs.Scheme.{scheme_of};
+ghost use Rattle.oyster_account.specs.Travel.{IsKnown};
 ghost use Rattle.oyster_account.specs.Leg.{is_within_minutes, is_in_time};
 ghost use Rattle.oyster_account.specs.Journey.{is_change};
 ghost use Rattle.oyster_account.specs.Refusal.{is_before};
 
+use fare_schedule::Schedule;
 use fare_table::Fares;
 use money_time::Stamp;
 
@@ -31,20 +34,23 @@ impl Passage {
     }
 
     /// Whether a touch out comes within the limit of a leg from this touch in. Both stations are
-    /// known.
-    pub(crate) fn is_in_time(self, fares: &Fares, finish: Passage) -> bool
-        requires start { IsSome (station_at (content_of fares.now) self.station) }
-        requires finish { IsSome (station_at (content_of fares.now) finish.station) }
-        ensures { result ≡ is_in_time (scheme_of fares.now) self finish }
+    /// known. The limit is that in force on the touch in's day.
+    pub(crate) fn is_in_time(self, schedule: &Schedule, finish: Passage) -> bool
+        requires start { IsKnown (scheme_of schedule.now) self }
+        requires finish { IsKnown (scheme_of schedule.now) finish }
+        ensures { result ≡ is_in_time (scheme_of schedule.now) self finish }
     {
+        let fares = fares_for(schedule, self.stamp);
         let minutes = fares.leg_minutes(self.station, finish.station);
         self.is_within_minutes(minutes, finish)
     }
 
-    /// Whether a touch in after this touch out is an interchange.
-    pub(crate) fn is_change(self, fares: &Fares, start: Passage) -> bool
-        ensures { result ≡ is_change (scheme_of fares.now) self start }
+    /// Whether a touch in after this touch out is an interchange, by the table in force on the
+    /// touch in's day.
+    pub(crate) fn is_change(self, schedule: &Schedule, start: Passage) -> bool
+        ensures { result ≡ is_change (scheme_of schedule.now) self start }
     {
+        let fares = fares_for(schedule, start.stamp);
         match fares.interchange(self.station, start.station) {
             Some(minutes) => self.is_within_minutes(minutes, start),
             None => false,
@@ -57,4 +63,15 @@ impl Passage {
     {
         later.stamp.moment < self.stamp.moment || later.stamp.day < self.stamp.day
     }
+}
+
+/// The table in force on the fare day of a stamp.
+pub(crate) fn fares_for(schedule: &Schedule, stamp: Stamp) -> &Fares
+    ensures value { result.now ≡ table_on schedule.now stamp.day }
+
+    // It has the stations of the tables of all days.
+    ensures known { (passage : Passage) → IsKnown (scheme_of schedule.now) passage
+        → is_some (station_at (content_of result.now) passage.station) ≡ true }
+{
+    schedule.on(stamp.day)
 }

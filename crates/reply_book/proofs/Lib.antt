@@ -3,9 +3,12 @@ pub mod NameLemmas
 pub mod LookupLemmas
 pub mod LegalLemmas
 pub mod CardLemmas
+pub mod RevisionLemmas
 pub mod ViewLemmas
+pub mod OrderLemmas
 pub mod BookLemmas
 pub mod ReplayLemmas
+pub mod ApplyLemmas
 pub mod LawLemmas
 pub mod CallerLemmas
 mod Examples

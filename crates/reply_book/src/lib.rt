@@ -7,13 +7,15 @@ mod book;
 mod entry;
 mod fault;
 mod laws;
+mod reached;
 mod replay;
 
 pub use book::{Book, CARD_LIMIT};
 pub use entry::{Entry, Found};
 pub use fault::ReplayFault;
 pub use laws::{
-    books_grow, finds_exactly, first_for_ever, legs_take_nothing, one_book, refusals_change_nothing,
+    books_grow, finds_exactly, first_for_ever, first_table_alone, legs_take_nothing, one_book,
+    refusals_change_nothing, revisions_alone_revise, revisions_are_unseen,
 };
 
 #[cfg(test)]

@@ -1,15 +1,26 @@
 //! Worked examples of a book, with the values of docs/PROTOCOL.md.
+//!
+//! Each test lets go of its book by a call of `drop`: a function in which a book goes out of scope
+//! takes several times as long to prove.
 
-ghost use Rattle.std.specs.Prelude.{◌≡◌, ◌<◌, ◌≤◌, ◌+◌, length, OnOk, IfOk};
-ghost use Rattle.oyster_account.specs.Scheme.{Scheme, scheme_of};
-ghost use Rattle.reply_book.specs.Book.{entries_of, Stands};
+ghost use Rattle.std.specs.Prelude.{◌≡◌, ◌<◌, ◌≤◌, ◌+◌, length, [], true};
+ghost use Rattle.fare_schedule.specs.Schedule.{revisions_of};
+ghost use Rattle.oyster_account.specs.Touch.{moment_of};
+ghost use Rattle.reply_book.specs.declared.entry.Found.TheVariants.{New};
+ghost use Rattle.reply_book.specs.Lookup.{found};
+ghost use Rattle.reply_book.specs.Tables.{is_known};
+ghost use Rattle.reply_book.specs.Book.{entries_of, tables_of, scheme_in, HasRoom, Stands};
+
+mod revised;
+mod revisions;
 
 use super::*;
+use fare_schedule::Schedule;
 use fare_table::{EXAMPLE_TABLE, Fares};
+use money_time::Stamp;
 use oyster_account::{Act, CardState, CardView, Reply, Touch};
 use std::alloc::{AllocError, Global};
 use std::process::Abort;
-use std::test::Fail;
 
 /// A touch of gate 7 and card 1.
 const fn touch(number: u32, act: Act) -> Touch {
@@ -89,47 +100,51 @@ const fn first_example() -> [Row; 4] {
     ]
 }
 
-/// Makes room for a touch. Where memory is refused, the book has to be what it was, and the call is
-/// made once more.
-fn make_ready(rt: &impl Abort, fares: &Fares, book: &mut Book, touch: &Touch) -> Result<(), Fail>
-    requires { Stands (scheme_of fares.now) book.old }
-    ensures entries { OnOk result (entries_of book.new ≡ entries_of book.old) }
-    ensures stands { OnOk result (Stands (scheme_of fares.now) book.new) }
-{
-    let count = book.len();
-    let last = book.entry(count.saturating_sub(1)).copied();
-    let seen = book.view(touch.card);
-    if book.ready(fares, touch).is_ok() {
-        return Ok(());
-    }
-    assert_eq!(rt; book.len(), count);
-    assert_eq!(rt; book.entry(count.saturating_sub(1)).copied(), last);
-    assert_eq!(rt; book.view(touch.card), seen);
-    book.ready(fares, touch)?;
-    Ok(())
+/// The touches of the first example.
+const fn first_touches() -> [Touch; 4] {
+    let [issue, top_up, enter, out] = first_example();
+    [issue.0, top_up.0, enter.0, out.0]
 }
 
-/// Adds a touch from seat 3, and compares what is foretold, answered, found and seen.
-fn add_one(rt: &impl Abort, fares: &Fares, book: &mut Book, row: Row) -> Result<(), Fail>
-    requires few { length (entries_of book.old) < 100 }
-    requires stands { Stands (scheme_of fares.now) book.old }
-    ensures count { OnOk result (length (entries_of book.new) ≡ length (entries_of book.old) + 1) }
-    ensures stands { OnOk result (Stands (scheme_of fares.now) book.new) }
+/// What stays where memory is refused: how many entries there are, the last, and a card's view.
+fn seen_of(book: &Book, card: u32) -> (u32, Option<Entry>, CardView) {
+    let count = book.len();
+    let last = book.entry(count.saturating_sub(1)).copied();
+    (count, last, book.view(card))
+}
+
+/// Makes room for a touch, and answers its stamp. Where memory is refused, the book has to be what
+/// it was, and the call is made once more.
+fn make_ready(rt: &impl Abort, book: &mut Book, touch: &Touch) -> Stamp
+    requires { Stands book.old }
+    ensures entries { entries_of book.new ≡ entries_of book.old }
+    ensures tables { tables_of book.new ≡ tables_of book.old }
+    ensures stands { Stands book.new }
+    ensures room { HasRoom book.new touch.now }
+    ensures stamp { result ≡ (scheme_in book.new).stamp (moment_of touch.now.act) }
 {
-    let (touch, reply, view) = row;
-    let place = book.len();
-    let is_new = matches!(book.find(&touch), Found::New);
+    let seen = seen_of(book, touch.card);
+    if let Ok(stamp) = book.ready(touch) {
+        return stamp;
+    }
+    assert_eq!(rt; seen_of(book, touch.card), seen);
+    book.ready(touch)
+        .expect(rt, "the second call meets no refusal")
+}
+
+/// That the book has no entry of the touch's name, and can judge it.
+fn assert_new(rt: &impl Abort, book: &Book, touch: &Touch)
+    ensures new { found (entries_of book.now) touch.now ≡ New }
+    ensures known { is_known (tables_of book.now) touch.now ≡ true }
+{
+    let is_new = matches!(book.find(touch), Found::New);
     assert!(rt; is_new, "{touch:?}");
-    make_ready(rt, fares, book, &touch)?;
-    assert!(rt; book.has_room(&touch));
-    let stamp = fares.stamp(touch.moment())?;
-    let foretold = book.judge(fares, &touch, &stamp);
-    assert_eq!(rt; foretold, (reply, view), "{touch:?}");
-    assert_eq!(rt;
-        book.add(fares, touch, &stamp, 3),
-        (place, reply),
-        "{touch:?}"
-    );
+    assert!(rt; book.knows(touch), "{touch:?}");
+}
+
+/// That the book stands so after the touch was entered at this place.
+fn assert_added(rt: &impl Abort, book: &Book, place: u32, row: Row) {
+    let (touch, reply, view) = row;
     let entry = Entry {
         touch,
         reply,
@@ -138,152 +153,223 @@ fn add_one(rt: &impl Abort, fares: &Fares, book: &mut Book, row: Row) -> Result<
     assert_eq!(rt; book.entry(place).copied(), Some(entry));
     assert_eq!(rt; book.find(&touch), Found::First(place, reply));
     assert_eq!(rt; book.view(touch.card), view, "{touch:?}");
-    Ok(())
 }
 
-/// A book of ten cards. Where one allocation is refused, the second call meets none.
-fn empty_book(alloc: Global) -> Result<Book, AllocError>
-    ensures entries { IfOk result (λ book. length (entries_of book) ≡ 0) }
-    ensures stands { IfOk result (λ book. (scheme : Scheme) → Stands scheme book) }
+/// Adds a touch from seat 3, and compares what is foretold, answered, found and seen.
+fn add_one(rt: &impl Abort, book: &mut Book, row: Row)
+    requires few { length (entries_of book.old) < 100 }
+    requires stands { Stands book.old }
+    ensures count { length (entries_of book.new) ≡ length (entries_of book.old) + 1 }
+    ensures stands { Stands book.new }
 {
-    match Book::new(alloc, 10) {
-        Ok(book) => Ok(book),
-        Err(AllocError) => Book::new(alloc, 10),
+    let (touch, reply, view) = row;
+    let place = book.len();
+    assert_new(rt, book, &touch);
+    let stamp = make_ready(rt, book, &touch);
+    assert!(rt; book.has_room(&touch));
+    let foretold = book.judge(&touch, &stamp);
+    assert_eq!(rt; foretold, (reply, view), "{touch:?}");
+    let added = book.add(touch, &stamp, 3);
+    assert_eq!(rt; added, (place, reply), "{touch:?}");
+    assert_added(rt, book, place, row);
+}
+
+/// The table of this text. Where one allocation is refused, the second call meets none.
+fn table(rt: &impl Abort, alloc: Global, text: &str) -> Fares {
+    if let Ok(fares) = Fares::read(alloc, text) {
+        return fares;
     }
+    Fares::read(alloc, text).expect(rt, "the table is read")
 }
 
-/// The book of these touches, and of ten cards. Where one allocation is refused, the second call
-/// meets none.
-fn book_of(alloc: Global, fares: &Fares, touches: &[Touch]) -> Result<Book, ReplayFault>
-    requires { length touches.now < 100 }
-    ensures stands { IfOk result (Stands (scheme_of fares.now)) }
+/// The example table alone.
+fn example_schedule(rt: &impl Abort, alloc: Global) -> Schedule
+    ensures { revisions_of result ≡ [] }
 {
-    match Book::replay(alloc, 10, fares, touches) {
-        Err(ReplayFault::Memory) => Book::replay(alloc, 10, fares, touches),
+    let schedule = Schedule::new(alloc, table(rt, alloc, EXAMPLE_TABLE));
+    schedule.expect(rt, "it takes no memory")
+}
+
+/// A book of ten cards and of the example table alone. Where one allocation is refused, the second
+/// call meets none.
+fn empty_book(rt: &impl Abort, alloc: Global) -> Book
+    ensures entries { length (entries_of result) ≡ 0 }
+    ensures stands { Stands result }
+{
+    if let Ok(book) = Book::new(alloc, 10, example_schedule(rt, alloc)) {
+        return book;
+    }
+    let book = Book::new(alloc, 10, example_schedule(rt, alloc));
+    book.expect(rt, "the second call meets no refusal")
+}
+
+/// What the book of these touches is, of ten cards and of the example table alone. Where one
+/// allocation is refused, the second call meets none.
+fn replayed(rt: &impl Abort, alloc: Global, touches: &[Touch]) -> Result<Book, ReplayFault>
+    requires { length touches.now < 100 }
+{
+    match Book::replay(alloc, 10, example_schedule(rt, alloc), touches) {
+        Err(ReplayFault::Memory) => {
+            Book::replay(alloc, 10, example_schedule(rt, alloc), touches)
+        }
         made => made,
     }
 }
 
-/// The example table.
-fn example_fares(alloc: Global) -> Result<Fares, Fail> {
-    match Fares::read(alloc, EXAMPLE_TABLE) {
-        Ok(fares) => Ok(fares),
-        Err(_) => Ok(Fares::read(alloc, EXAMPLE_TABLE)?),
-    }
-}
-
 /// The book of ten cards after the first example.
-fn example_book(rt: &impl Abort, alloc: Global, fares: &Fares) -> Result<Book, Fail>
-    ensures few { IfOk result (λ book. length (entries_of book) < 10) }
-    ensures stands { IfOk result (Stands (scheme_of fares.now)) }
+fn example_book(rt: &impl Abort, alloc: Global) -> Book
+    ensures few { length (entries_of result) < 10 }
+    ensures stands { Stands result }
 {
-    let mut book = empty_book(alloc)?;
+    let mut book = empty_book(rt, alloc);
+    add_first(rt, &mut book);
+    book
+}
+
+/// Adds the touches of the first example.
+fn add_first(rt: &impl Abort, book: &mut Book)
+    requires none { length (entries_of book.old) ≡ 0 }
+    requires stands { Stands book.old }
+    ensures few { length (entries_of book.new) < 10 }
+    ensures stands { Stands book.new }
+{
     let [issue, top_up, enter, out] = first_example();
-    add_one(rt, fares, &mut book, issue)?;
-    add_one(rt, fares, &mut book, top_up)?;
-    add_one(rt, fares, &mut book, enter)?;
-    add_one(rt, fares, &mut book, out)?;
-    Ok(book)
+    add_one(rt, book, issue);
+    add_one(rt, book, top_up);
+    add_one(rt, book, enter);
+    add_one(rt, book, out);
 }
 
-#[test]
-fn a_repeat_is_found_and_another_touch_is_a_conflict(rt: HostRuntime) -> Result<(), Fail> {
-    let fares = example_fares(rt.alloc())?;
-    let book = example_book(&rt, rt.alloc(), &fares)?;
-    let [(issue, _, _), _, _, _] = first_example();
-    let other_gate = Touch {
-        gate: 8,
-        ..leave(4, 1)
-    };
-    for (touch, found) in [
-        (leave(4, 1), Found::First(3, reply(4, 550, 1650))),
-        (issue, Found::First(0, reply(8, 0, 0))),
-        (leave(4, 3), Found::Conflict),
-        (leave(5, 1), Found::New),
-        (other_gate, Found::New),
-    ] {
-        assert_eq!(rt; book.find(&touch), found, "{touch:?}");
+/// That there are so many entries, and none behind them.
+fn assert_count(rt: &impl Abort, book: &Book, count: u32) {
+    assert_eq!(rt; book.len(), count);
+    assert!(rt; book.entry(count).is_none());
+}
+
+/// That each of these touches is found so.
+fn assert_finds(rt: &impl Abort, book: &Book, rows: &[(Touch, Found)]) {
+    for (touch, found) in rows {
+        assert_eq!(rt; book.find(touch), *found, "{touch:?}");
     }
-    assert_eq!(rt; book.len(), 4);
-    assert!(rt; book.entry(4).is_none());
-    Ok(())
 }
 
-#[test]
-fn a_card_is_seen_as_its_touches_made_it(rt: HostRuntime) -> Result<(), Fail> {
-    let fares = example_fares(rt.alloc())?;
-    let book = example_book(&rt, rt.alloc(), &fares)?;
-    for (card, seen) in [
-        (1, view(CardState::Outside, 1650)),
-        (2, view(CardState::Vacant, 0)),
-        (0, view(CardState::Vacant, 0)),
-        (11, view(CardState::Vacant, 0)),
-    ] {
-        assert_eq!(rt; book.view(card), seen, "card {card}");
+/// That each of these cards is seen so.
+fn assert_seen(rt: &impl Abort, book: &Book, rows: &[(u32, CardView)]) {
+    for (card, seen) in rows {
+        assert_eq!(rt; book.view(*card), *seen, "card {card}");
     }
-    Ok(())
 }
 
-#[test]
-fn a_touch_of_no_card_is_refused_and_kept(rt: HostRuntime) -> Result<(), Fail> {
-    let fares = example_fares(rt.alloc())?;
-    let mut book = example_book(&rt, rt.alloc(), &fares)?;
-    let stray = Touch {
-        card: 11,
-        ..leave(5, 1)
-    };
-    let row = (stray, reply(20, 0, 0), view(CardState::Vacant, 0));
-    add_one(&rt, &fares, &mut book, row)
-}
-
-#[test]
-fn a_book_is_made_of_its_touches(rt: HostRuntime) -> Result<(), Fail> {
-    let fares = example_fares(rt.alloc())?;
-    let touches = first_example().map(|row| row.0);
-    let book = book_of(rt.alloc(), &fares, &touches)?;
-    assert_eq!(rt; book.len(), 4);
-    for (place, row) in first_example().iter().enumerate() {
+/// That the entries from seat 0 are of these rows.
+fn assert_entries(rt: &impl Abort, book: &Book, rows: &[Row; 4]) {
+    for (place, row) in rows.iter().enumerate() {
         let entry = Entry {
             touch: row.0,
             reply: row.1,
             seat: 0,
         };
-        assert_eq!(rt;
-            book.entry(place as u32).copied(),
-            Some(entry),
-            "place {place}"
-        );
+        let kept = book.entry(place as u32).copied();
+        assert_eq!(rt; kept, Some(entry), "place {place}");
     }
-    assert_eq!(rt; book.view(1), view(CardState::Outside, 1650));
-    Ok(())
 }
 
-#[test]
-fn a_repeat_is_told_by_its_place(rt: HostRuntime) -> Result<(), Fail> {
-    let fares = example_fares(rt.alloc())?;
-    let [first, second, third, fourth] = first_example().map(|row| row.0);
-    let rows = [
-        ([first, second, third, fourth, first], 4),
-        ([first, second, third, fourth, leave(4, 3)], 4),
-        ([first, second, first, fourth, second], 2),
-    ];
-    for (touches, place) in rows {
-        let told = book_of(rt.alloc(), &fares, &touches).err();
-        assert_eq!(rt; told, Some(ReplayFault::Repeated(place)));
+/// That no book is made of any of these touches, and why.
+fn assert_told(rt: &impl Abort, alloc: Global, rows: &[([Touch; 5], ReplayFault)]) {
+    for (touches, fault) in rows {
+        let told = replayed(rt, alloc, touches).err();
+        assert_eq!(rt; told, Some(*fault));
     }
-    Ok(())
 }
 
-#[test]
-fn room_is_made_ahead(rt: HostRuntime) -> Result<(), Fail> {
-    let fares = example_fares(rt.alloc())?;
-    let mut book = empty_book(rt.alloc())?;
+/// That there is no room for a touch before it is made, and then there is, for no entry.
+fn assert_reserves(rt: &impl Abort, book: &mut Book) {
     assert!(rt; !book.has_room(&leave(4, 1)));
     if let Err(AllocError) = book.reserve(1000) {
         assert!(rt; !book.has_room(&leave(4, 1)));
-        book.reserve(1000)?;
+        book.reserve(1000)
+            .expect(rt, "the second call meets no refusal");
     }
     assert!(rt; book.has_room(&leave(4, 1)));
     assert_eq!(rt; book.len(), 0);
-    Ok(())
+}
+
+#[test]
+fn a_repeat_is_found_and_another_touch_is_a_conflict(rt: HostRuntime) {
+    let book = example_book(&rt, rt.alloc());
+    let [issue, _, _, _] = first_touches();
+    let other_gate = Touch {
+        gate: 8,
+        ..leave(4, 1)
+    };
+    let rows = [
+        (leave(4, 1), Found::First(3, reply(4, 550, 1650))),
+        (issue, Found::First(0, reply(8, 0, 0))),
+        (leave(4, 3), Found::Conflict),
+        (leave(5, 1), Found::New),
+        (other_gate, Found::New),
+    ];
+    assert_finds(&rt, &book, &rows);
+    assert_count(&rt, &book, 4);
+    drop(book);
+}
+
+#[test]
+fn a_card_is_seen_as_its_touches_made_it(rt: HostRuntime) {
+    let book = example_book(&rt, rt.alloc());
+    let rows = [
+        (1, view(CardState::Outside, 1650)),
+        (2, view(CardState::Vacant, 0)),
+        (0, view(CardState::Vacant, 0)),
+        (11, view(CardState::Vacant, 0)),
+    ];
+    assert_seen(&rt, &book, &rows);
+    drop(book);
+}
+
+#[test]
+fn a_touch_of_no_card_is_refused_and_kept(rt: HostRuntime) {
+    let mut book = example_book(&rt, rt.alloc());
+    let stray = Touch {
+        card: 11,
+        ..leave(5, 1)
+    };
+    let row = (stray, reply(20, 0, 0), view(CardState::Vacant, 0));
+    add_one(&rt, &mut book, row);
+    drop(book);
+}
+
+#[test]
+fn a_book_is_made_of_its_touches(rt: HostRuntime) {
+    let book = replayed(&rt, rt.alloc(), &first_touches()).expect(&rt, "a book");
+    assert_count(&rt, &book, 4);
+    assert_entries(&rt, &book, &first_example());
+    assert_seen(&rt, &book, &[(1, view(CardState::Outside, 1650))]);
+    drop(book);
+}
+
+#[test]
+fn a_repeat_is_told_by_its_place(rt: HostRuntime) {
+    let [first, second, third, fourth] = first_touches();
+    let rows = [
+        (
+            [first, second, third, fourth, first],
+            ReplayFault::Repeated(4),
+        ),
+        (
+            [first, second, third, fourth, leave(4, 3)],
+            ReplayFault::Repeated(4),
+        ),
+        (
+            [first, second, first, fourth, second],
+            ReplayFault::Repeated(2),
+        ),
+    ];
+    assert_told(&rt, rt.alloc(), &rows);
+}
+
+#[test]
+fn room_is_made_ahead(rt: HostRuntime) {
+    let mut book = empty_book(&rt, rt.alloc());
+    assert_reserves(&rt, &mut book);
+    drop(book);
 }

@@ -3,15 +3,13 @@
 use Rattle.std.specs.Prelude.{◌≡◌, ◌⊎◌, ℕ, ◌+◌, ◌≤◌, true, Bool, List, [], ◌∷◌, length, map}
 use Rattle.std.specs.Prelude.{Option, Some, slice_get}
 use Rattle.logbook.specs.Pages.{Book as Logbook}
-use Rattle.fare_table.specs.declared.fares.Fares.{Fares}
 use Rattle.oyster_account.specs.declared.touch.Touch.{Touch}
 use Rattle.oyster_account.specs.declared.reply.CardView.{CardView}
-use Rattle.oyster_account.specs.Scheme.{Scheme, scheme_of}
-use Rattle.oyster_account.specs.Judge.{judge_touch}
 use Rattle.reply_book.specs.declared.entry.Entry.{Entry}
 use Rattle.reply_book.specs.declared.book.Book.{Book}
-use Rattle.reply_book.specs.Book.{entries_of, cards_of, Stands}
-use Rattle.reply_book.specs.Legal.{history_of}
+use Rattle.reply_book.specs.Tables.{Tables}
+use Rattle.reply_book.specs.Book.{entries_of, cards_of, tables_of, Stands}
+use Rattle.reply_book.specs.Legal.{history_of, judge_after}
 use Rattle.reply_book.specs.View.{view_after}
 use Rattle.tap_desk.specs.declared.shown.Published.{Published}
 use Rattle.tap_desk.specs.declared.shown.Update.{Update}
@@ -31,25 +29,23 @@ abbrev pub lists_of : List Update → List (List Entry)
 lists_of updates = map (λ update. list_of update.page) updates
 
 -- the entry that a touch from a seat comes to after those of the book
-abbrev pub entry_after : Scheme → Book → Touch → ℕ → Entry
-entry_after scheme book touch seat = record {
+abbrev pub entry_after : Book → Touch → ℕ → Entry
+entry_after book touch seat = record {
   touch = touch;
-  reply = judge_touch scheme (cards_of book) (history_of (entries_of book)) touch;
+  reply = judge_after (tables_of book) (cards_of book) (history_of (entries_of book)) touch;
   seat = seat;
 }
 
--- the table and the number of cards are those by which the book stands
-pub record IsTableOf (table : Option (Fares × ℕ)) (book : Book) : Type 0 where
-  pub fares : Fares
-  pub is : table ≡ Some (fares, cards_of book)
-  pub stands : Stands (scheme_of fares) book
+-- the tables and the number of cards are those of the book, which stands
+pub record IsTableOf (table : Option (Tables × ℕ)) (book : Book) : Type 0 where
+  pub is : table ≡ Some (tables_of book, cards_of book)
+  pub stands : Stands book
 
 -- each view is what is seen in the book of the card of that place
 abbrev pub IsEachViewOf : Book → List CardView → Type 0
 IsEachViewOf book views =
-    (scheme : Scheme) (place : ℕ) (view : CardView) → Stands scheme book
-    → slice_get views place ≡ Some view
-    → view ≡ view_after scheme (cards_of book) (history_of (entries_of book)) (place + 1)
+    (place : ℕ) (view : CardView) → slice_get views place ≡ Some view
+    → view ≡ view_after (tables_of book) (cards_of book) (history_of (entries_of book)) (place + 1)
 
 -- there is a view for each card of the book, and it is what is seen of that card
 pub record AreViewsOf (book : Book) (views : List CardView) : Type 0 where
@@ -61,10 +57,10 @@ pub record IsStaged (shown : Published) (named : Bool) (waiting : List Update) :
   pub one : OneWaits shown waiting
   pub named_too : named ≡ true → one.update.page.named ≡ true
 
--- the story tells what is shown, by the table of the name, and where it is the named one, it is the
--- name's and the page's; its steps are no more than the entries; the writer saw what is shown; and
--- nothing waits, or one update
-pub record IsPublished (logbook : Logbook) (table : Option (Fares × ℕ)) (held : HeldWriter)
+-- the story tells what is shown, by the tables of the name, and where it is the named one, it is
+-- the name's and the page's; its steps are no more than the entries; the writer saw what is shown;
+-- and nothing waits, or one update
+pub record IsPublished (logbook : Logbook) (table : Option (Tables × ℕ)) (held : HeldWriter)
     (story : Story) (named : Bool) : Type 0 where
   pub tells : told story.seen.log ≡ list_of (shown_of held).page
   pub by : table_of story.seen.log ≡ table

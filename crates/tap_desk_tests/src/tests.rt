@@ -1,12 +1,10 @@
 //! Desks over a book of two cards, alone and beside threads that commit.
 
-ghost use Rattle.std.specs.Prelude.{◌≡◌, ◌+◌, ◌<◌, [], Some, length, IfOk, OnOk};
-ghost use Rattle.fare_table.specs.declared.fares.Fares.{Fares};
-ghost use Rattle.reply_book.specs.Book.{entries_of, cards_of, Stands};
-ghost use Rattle.oyster_account.specs.Scheme.{scheme_of};
+ghost use Rattle.std.specs.Prelude.{◌≡◌, ◌<◌, [], Some, IfOk};
+ghost use Rattle.reply_book.specs.Book.{entries_of, cards_of, tables_of, Stands};
 ghost use Rattle.tap_desk.specs.Story.{told, table_of};
-ghost use Rattle.tap_desk.specs.Publishing.{IsTableOf};
 
+use fare_schedule::Schedule;
 use fare_table::{EXAMPLE_TABLE, Fares};
 use oyster_account::{Act, CardState, CardView, Touch};
 use reply_book::{Book, Found};
@@ -21,15 +19,13 @@ use tap_desk::{Desk, Enquiry, Note, Publisher, Story, StoryName};
 /// A book, and what is published of it, as a lock keeps them.
 #[derive(Drop)]
 struct Station<N: StoryName> {
-    fares: Fares,
     book: Book,
     publisher: Publisher<N>,
 }
 
 impl<N: StoryName> Model for Station<N> {
     ghost use Rattle.std.specs.Prelude.{◌≡◌, [], Some};
-    ghost use Rattle.oyster_account.specs.Scheme.{scheme_of};
-    ghost use Rattle.reply_book.specs.Book.{entries_of, cards_of, Stands};
+    ghost use Rattle.reply_book.specs.Book.{entries_of, cards_of, tables_of, Stands};
     ghost use Rattle.tap_desk.specs.Publishing.{Publication};
 
     ghost Value = { Publication };
@@ -37,7 +33,7 @@ impl<N: StoryName> Model for Station<N> {
     ghost view = { λ s. s.publisher };
 
     ghost invariant = { λ s. (s.publisher.list ≡ entries_of s.book) × (s.publisher.waiting ≡ [])
-        × (N.table ≡ Some (s.fares, cards_of s.book)) × Stands (scheme_of s.fares) s.book };
+        × (N.table ≡ Some (tables_of s.book, cards_of s.book)) × Stands s.book };
 }
 
 impl<N: StoryName> Station<N> {
@@ -46,41 +42,39 @@ impl<N: StoryName> Station<N> {
         if self.book.len() >= 1_000_000 || self.book.find(&touch) != Found::New {
             return None;
         }
-        let Ok(stamp) = self.book.ready(&self.fares, &touch) else {
+        if !self.book.knows(&touch) {
+            return None;
+        }
+        let Ok(stamp) = self.book.ready(&touch) else {
             return None;
         };
-        let Ok(()) = self
-            .publisher
-            .stage(&self.fares, &self.book, &touch, &stamp, 1)
-        else {
+        let Ok(()) = self.publisher.stage(&self.book, &touch, &stamp, 1) else {
             return None;
         };
-        self.book.add(&self.fares, touch, &stamp, 1);
-        self.publisher.publish(rt, &self.fares, &self.book);
+        self.book.add(touch, &stamp, 1);
+        self.publisher.publish(rt, &self.book);
         Some(self.publisher.note(&self.book))
     }
 }
 
 /// Stages a touch for a book and goes no further, as where the disk fails. It answers whether that
 /// was done.
-fn is_staged<N: StoryName>(
-    fares: &Fares,
-    book: &mut Book,
-    publisher: &mut Publisher<N>,
-    touch: &Touch,
-) -> bool
+fn is_staged<N: StoryName>(book: &mut Book, publisher: &mut Publisher<N>, touch: &Touch) -> bool
     requires list { publisher.old.list ≡ entries_of book.old }
     requires none { publisher.old.waiting ≡ [] }
-    requires table { N.table ≡ Some (fares.now, cards_of book.old) }
-    requires stands { Stands (scheme_of fares.now) book.old }
+    requires table { N.table ≡ Some (tables_of book.old, cards_of book.old) }
+    requires stands { Stands book.old }
 {
     if book.len() >= 1_000_000 || book.find(touch) != Found::New {
         return false;
     }
-    let Ok(stamp) = book.ready(fares, touch) else {
+    if !book.knows(touch) {
+        return false;
+    }
+    let Ok(stamp) = book.ready(touch) else {
         return false;
     };
-    publisher.stage(fares, book, touch, &stamp, 1).is_ok()
+    publisher.stage(book, touch, &stamp, 1).is_ok()
 }
 
 /// A touch of gate 7.
@@ -119,12 +113,34 @@ const fn issue(number: u32, card: u32) -> Touch {
     )
 }
 
-/// A book of two vacant cards.
-fn two_cards(alloc: Global, fares: &Fares) -> Result<Book, Fail>
+/// A revision from day 20095 on to the table of this digest, with the number of card 1.
+const fn revise(number: u32, digest: [u8; 32]) -> Touch {
+    touch(
+        number,
+        1,
+        Act::Revise {
+            digest,
+            day: 20095,
+            moment: 1_736_150_100,
+        },
+    )
+}
+
+/// The example table.
+fn example(alloc: Global) -> Result<Fares, Fail> {
+    match Fares::read(alloc, EXAMPLE_TABLE) {
+        Ok(fares) => Ok(fares),
+        Err(_) => Err(Fail::from("a table")),
+    }
+}
+
+/// A book of two vacant cards, by the example table.
+fn two_cards(alloc: Global) -> Result<Book, Fail>
     ensures cards { IfOk result (λ book. 2 ≡ cards_of book) }
-    ensures stands { IfOk result (Stands (scheme_of fares.now)) }
+    ensures stands { IfOk result Stands }
 {
-    match Book::new(alloc, 2) {
+    let schedule = Schedule::new(alloc, example(alloc)?)?;
+    match Book::new(alloc, 2, schedule) {
         Ok(book) => Ok(book),
         Err(AllocError) => Err(Fail::from("memory")),
     }
@@ -134,7 +150,6 @@ fn two_cards(alloc: Global, fares: &Fares) -> Result<Book, Fail>
 fn open_station<N: StoryName, R: Wait>(
     rt: &R,
     alloc: Global,
-    fares: Fares,
     book: Book,
     story: Story,
     desks: u16,
@@ -143,30 +158,24 @@ fn open_station<N: StoryName, R: Wait>(
     requires by { table_of story.seen.log ≡ N.table }
     requires fresh { story.steps ≡ 0 }
     requires named { story.seen.book ≡ N.story }
-    requires table { N.table ≡ Some (fares, cards_of book) }
-    requires stands { Stands (scheme_of fares) book }
+    requires table { N.table ≡ Some (tables_of book, cards_of book) }
+    requires stands { Stands book }
     requires cards { 2 ≡ cards_of book }
 {
     let publisher = Publisher::open(alloc, rt, story, &book, 2, desks)?;
-    Ok(Station {
-        fares,
-        book,
-        publisher,
-    })
+    Ok(Station { book, publisher })
 }
 
 #[test]
 fn a_desk_answers_from_what_is_published(rt: HostRuntime) -> Result<(), Fail> {
-    let fares = Fares::read(rt.alloc(), EXAMPLE_TABLE).map_err(|_| "a table")?;
-    let book = two_cards(rt.alloc(), &fares)?;
-    let story = Story::begin(&fares, &book);
-    alone::<Brand, _>(&rt, rt.alloc(), fares, book, story)
+    let book = two_cards(rt.alloc())?;
+    let story = Story::begin(&book);
+    alone::<Brand, _>(&rt, rt.alloc(), book, story)
 }
 
 fn alone<N: StoryName, R: Wait + Abort>(
     rt: &R,
     alloc: Global,
-    fares: Fares,
     book: Book,
     story: Story,
 ) -> Result<(), Fail>
@@ -174,15 +183,17 @@ fn alone<N: StoryName, R: Wait + Abort>(
     requires by { table_of story.seen.log ≡ N.table }
     requires fresh { story.steps ≡ 0 }
     requires named { story.seen.book ≡ N.story }
-    requires table { N.table ≡ Some (fares, cards_of book) }
-    requires stands { Stands (scheme_of fares) book }
+    requires table { N.table ≡ Some (tables_of book, cards_of book) }
+    requires stands { Stands book }
     requires cards { 2 ≡ cards_of book }
 {
-    let mut station: Station<N> = open_station(rt, alloc, fares, book, story, 1)?;
+    let mut station: Station<N> = open_station(rt, alloc, book, story, 1)?;
     let mut desk = station.publisher.desk().expect(rt, "a desk");
     assert!(rt; station.publisher.desk().is_none(), "there is one place");
     compare(rt, &mut desk, 1, view(CardState::Vacant, 0), 0);
     follow(rt, &mut station, &mut desk);
+    let digest = example(alloc)?.digest();
+    follow_revisions(rt, &mut station, &mut desk, digest);
     leave(rt, station, &mut desk);
     Ok(())
 }
@@ -214,32 +225,49 @@ fn follow<N: StoryName, R: Wait + Abort>(rt: &R, station: &mut Station<N>, desk:
     compare(rt, desk, 3, view(CardState::Vacant, 0), 3);
 }
 
-/// Stages a fourth touch, asks for its card, and closes.
+/// Commits a revision to the table of this digest, which changes no card's view, and none to a
+/// table that isn't there.
+fn follow_revisions<N: StoryName, R: Wait + Abort>(
+    rt: &R,
+    station: &mut Station<N>,
+    desk: &mut Desk<N>,
+    digest: [u8; 32],
+) {
+    desk.learn(
+        station
+            .commit(rt, revise(4, digest))
+            .expect(rt, "it commits"),
+    );
+    compare(rt, desk, 1, view(CardState::Outside, 100), 4);
+    compare(rt, desk, 2, view(CardState::Outside, 0), 4);
+    let other = station.commit(rt, revise(5, [0; 32]));
+    assert!(rt; other.is_none(), "no such table");
+    compare(rt, desk, 1, view(CardState::Outside, 100), 4);
+}
+
+/// Stages a fifth touch, asks for its card, and closes.
 fn leave<N: StoryName, R: Wait + Abort>(rt: &R, station: Station<N>, desk: &mut Desk<N>) {
     let Station {
-        fares,
         mut book,
         mut publisher,
     } = station;
-    let staged = is_staged(&fares, &mut book, &mut publisher, &pound(4, 2));
+    let staged = is_staged(&mut book, &mut publisher, &pound(5, 2));
     assert!(rt; staged, "it stages");
-    compare(rt, desk, 2, view(CardState::Outside, 0), 3);
-    assert_eq!(rt; publisher.close(rt), 3);
+    compare(rt, desk, 2, view(CardState::Outside, 0), 4);
+    assert_eq!(rt; publisher.close(rt), 4);
     assert!(rt; desk.enquire(1).is_none(), "the office is gone");
 }
 
 #[test]
 fn desks_keep_up_beside_two_threads_that_commit(rt: HostRuntime) -> Result<(), Fail> {
-    let fares = Fares::read(rt.alloc(), EXAMPLE_TABLE).map_err(|_| "a table")?;
-    let book = two_cards(rt.alloc(), &fares)?;
-    let story = Story::begin(&fares, &book);
-    shared::<Brand, _>(&rt, rt.alloc(), fares, book, story)
+    let book = two_cards(rt.alloc())?;
+    let story = Story::begin(&book);
+    shared::<Brand, _>(&rt, rt.alloc(), book, story)
 }
 
 fn shared<N: StoryName + Send + Sync, R: Threads + Wait + Abort + Sync>(
     rt: &R,
     alloc: Global,
-    fares: Fares,
     book: Book,
     story: Story,
 ) -> Result<(), Fail>
@@ -247,11 +275,11 @@ fn shared<N: StoryName + Send + Sync, R: Threads + Wait + Abort + Sync>(
     requires by { table_of story.seen.log ≡ N.table }
     requires fresh { story.steps ≡ 0 }
     requires named { story.seen.book ≡ N.story }
-    requires table { N.table ≡ Some (fares, cards_of book) }
-    requires stands { Stands (scheme_of fares) book }
+    requires table { N.table ≡ Some (tables_of book, cards_of book) }
+    requires stands { Stands book }
     requires cards { 2 ≡ cards_of book }
 {
-    let mut station: Station<N> = open_station(rt, alloc, fares, book, story, 2)?;
+    let mut station: Station<N> = open_station(rt, alloc, book, story, 2)?;
     let one = station.publisher.desk().expect(rt, "a desk");
     let two = station.publisher.desk().expect(rt, "a second desk");
     let first = station.commit(rt, issue(1, 1));

@@ -1,4 +1,5 @@
 pub mod CountingLemmas
+pub mod DeskLemmas
 pub mod FindingLemmas
 pub mod KeeperLemmas
 pub mod OpeningLemmas
@@ -6,4 +7,5 @@ pub mod PowerLemmas
 pub mod RoundLemmas
 pub mod SettlingLemmas
 pub mod Sending
+pub mod TablesLemmas
 mod Examples

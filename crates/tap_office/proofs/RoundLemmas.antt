@@ -3,13 +3,13 @@ use Rattle.std.proofs.Common.{◌≡◌, ℕ, zero, suc, ◌<◌, List, [], ◌�
 use Rattle.std.specs.Prelude.{slice_get}
 use Rattle.oyster_account.specs.declared.touch.Touch.{Touch}
 use Rattle.oyster_account.specs.declared.reply.Judged.{Judged}
-use Rattle.oyster_account.specs.Scheme.{Scheme}
 use Rattle.tap_journal.specs.Layout.{Header}
 use Rattle.tap_journal.specs.Image.{Image}
 use Rattle.tap_journal.proofs.OneLemmas.{one_journal}
 use Rattle.reply_book.specs.Legal.{book}
 use Rattle.reply_book.proofs.CallerLemmas.{books-grow}
 use Rattle.tap_office.specs.Rounds.{Round, released, EndsAs, GoOnFrom, IsKeptIn}
+use Rattle.tap_office.proofs.TablesLemmas.{same-book}
 
 -- the second list begins with the first
 abbrev pub Begins : List Touch → List Touch → Type 0
@@ -59,15 +59,16 @@ slice_get-more [] ys i x at = absurd cc
 slice_get-more (y ∷ xs) ys zero x at = at
 slice_get-more (y ∷ xs) ys (suc i) x at = slice_get-more xs ys i x at
 
-pub kept_in : (scheme : Scheme) (h : Header) (earlier later : Round) → Begins (released earlier) later.found
-    → IsKeptIn scheme h earlier later
-kept_in scheme h earlier later b =
-    let grows = books-grow scheme h.cards (released earlier) b.0 in
+pub kept_in : (h : Header) (earlier later : Round) → Begins (released earlier) later.found → IsKeptIn h earlier later
+kept_in h earlier later b =
+    let old = released earlier in
+    let grows = books-grow later.tables h.cards old b.0 in
     record {
       more = b.0;
       touches = b.1;
-      replies = λ place judged at.
-          ap (λ (ts : List Touch). slice_get (book scheme h.cards ts) place) b.1
+      replies = λ same place judged at.
+          ap (λ (ts : List Touch). slice_get (book later.tables h.cards ts) place) b.1
           ∙ ap (λ (js : List Judged). slice_get js place) grows.1
-          ∙ slice_get-more (book scheme h.cards (released earlier)) grows.0 place judged at;
+          ∙ slice_get-more (book later.tables h.cards old) grows.0 place judged
+          (ap (λ (js : List Judged). slice_get js place) (same-book earlier.tables later.tables h.cards old same) ∙ at);
     }

@@ -6,8 +6,9 @@ use Rattle.std.specs.List.{All, sum_by}
 use Rattle.reply_book.specs.declared.entry.Entry.{Entry}
 use Rattle.tap_office.specs.declared.receipt.Filed.{Filed}
 use Rattle.reply_book.specs.declared.book.Book.{Book}
-use Rattle.reply_book.specs.Book.{Stands, entries_of, cards_of}
+use Rattle.reply_book.specs.Book.{Stands, entries_of, cards_of, tables_of}
 use Rattle.tap_office.specs.Name.{Opened}
+use Rattle.tap_office.specs.Given.{IsGiven}
 use Rattle.tap_office.specs.Keeper.{IsLeft}
 use Rattle.tap_office.specs.Seat.{SeatState, rises}
 
@@ -67,12 +68,13 @@ pub record Settles (recovered : List Entry) (count : ℕ) (seats : List SeatStat
       All (λ entry. (1 ≤ entry.seat) × (entry.seat ≤ count)) (drop (length recovered) entries)
   pub grows : length entries ≡ length recovered + sum_by (λ seat. length seat.receipts) seats
 
--- what is left of an office: its history is legal under its table and cards, begins with what was
--- found, and is what its disk has
+-- what is left of an office: its book is by the opening's tables and cards, its history is legal,
+-- begins with what was found, and is what its disk has
 pub record IsEnd {D : Type 0} (honest : D → Type 0) (content : D → List ℕ)
     (outcome : D → List ℕ → Type 0) (opened : Opened) (book : Book) (halted : Bool) (disk : D)
     : Type 0 where
-  pub legal : Stands opened.scheme book
+  pub tables : IsGiven opened (tables_of book)
+  pub legal : Stands book
   pub cards : cards_of book ≡ opened.header.cards
   pub begins : take (length opened.recovered) (entries_of book) ≡ opened.recovered
   pub left : IsLeft honest content outcome opened.header (entries_of book) halted disk

@@ -1,5 +1,6 @@
 pub mod Fault
 pub mod Name
+pub mod Given
 pub mod Seat
 pub mod Receipt
 pub mod Keeper

@@ -4,15 +4,14 @@ use Rattle.std.specs.Prelude.{◌≡◌, ◌⊎◌, ℕ, ◌+◌, ◌≤◌, ◌
 use Rattle.std.specs.Prelude.{Result, Ok, Err, slice_index_or}
 use Rattle.std.specs.List.{All}
 use Rattle.logbook.specs.Pages.{Book as Logbook}
-use Rattle.fare_table.specs.declared.fares.Fares.{Fares}
 use Rattle.fare_table.specs.Fares.{digest_of}
 use Rattle.oyster_account.specs.declared.touch.Touch.{Touch}
 use Rattle.oyster_account.specs.declared.card.TheConstants.{HISTORY_LIMIT}
-use Rattle.oyster_account.specs.Scheme.{scheme_of}
 use Rattle.tap_disk.specs.declared.disk.Disk.{Ghosts}
 use Rattle.tap_journal.specs.declared.journal.Journal.{Journal}
 use Rattle.tap_journal.specs.declared.fault.JournalFault.{JournalFault}
-use Rattle.tap_journal.specs.declared.fault.JournalFault.TheVariants.{Memory, Device, Damaged, NoDesk}
+use Rattle.tap_journal.specs.declared.fault.JournalFault.TheVariants.{Memory, Device, Damaged}
+use Rattle.tap_journal.specs.declared.fault.JournalFault.TheVariants.{NoDesk, MissingTable}
 use Rattle.tap_journal.specs.declared.fault.OpenFault.{OpenFault}
 use Rattle.tap_journal.specs.Layout.{Header, header_of}
 use Rattle.tap_journal.specs.Image.{Image}
@@ -21,8 +20,9 @@ use Rattle.tap_journal.specs.Crash.{Stands, capacity_of, is_stopped}
 use Rattle.reply_book.specs.declared.entry.Entry.{Entry}
 use Rattle.reply_book.specs.declared.book.Book.{Book}
 use Rattle.reply_book.specs.declared.book.TheConstants.{CARD_LIMIT}
-use Rattle.reply_book.specs.Names.{IsFirstRepeat}
-use Rattle.reply_book.specs.Book.{entries_of, cards_of, Stands as BookStands}
+use Rattle.reply_book.specs.Tables.{Tables, AreKnown}
+use Rattle.reply_book.specs.Replay.{IsRepeatedAt, IsMissingAt}
+use Rattle.reply_book.specs.Book.{entries_of, cards_of, tables_of, Stands as BookStands}
 use Rattle.reply_book.specs.Legal.{touches_of, history_of, IsLegal}
 use Rattle.tap_desk.specs.declared.story.Story.{Story}
 use Rattle.tap_desk.specs.Story.{told, table_of}
@@ -31,10 +31,14 @@ use Rattle.tap_office.specs.declared.opening.TheConstants.{SEAT_LIMIT}
 use Rattle.tap_office.specs.Name.{Opened}
 use Rattle.tap_office.specs.Seat.{SeatState, fresh_seat}
 
--- an opening: the table, the journal's header, the history that was found, how many seats are to be
--- made, the two ledgers, the logbook that tells the history, and the disk
+-- the header of a journal of this capacity, for so many cards, by these tables: it names the first
+abbrev pub header_by : ℕ → ℕ → Tables → Header
+header_by capacity cards tables = header_of capacity cards (digest_of tables.first)
+
+-- an opening: the fare tables, the journal's header, the history that was found, how many seats are
+-- to be made, the two ledgers, the logbook that tells the history, and the disk
 pub record OpeningState (D : Type 0) : Type 0 where
-  pub fares : Fares
+  pub tables : Tables
   pub header : Header
   pub recovered : List Entry
   pub seats : ℕ
@@ -46,14 +50,13 @@ pub record OpeningState (D : Type 0) : Type 0 where
 -- what a name of the opening stands for
 abbrev pub opened_of : {D : Type 0} → OpeningState D → Opened
 opened_of opening = record {
-  scheme = scheme_of opening.fares;
   header = opening.header;
   recovered = opening.recovered;
   seats = opening.seats;
   receipts = opening.receipts;
   numbers = opening.numbers;
   story = opening.story;
-  table = Some (opening.fares, opening.header.cards);
+  table = Some (opening.tables, opening.header.cards);
 }
 
 -- the disk of what was read, or the one that was handed back
@@ -68,32 +71,51 @@ pub record AreInLimits (cards seats : ℕ) : Type 0 where
   pub some_seats : 1 ≤ seats
   pub seat_limit : seats ≤ SEAT_LIMIT
 
--- the opening is by this table, with so many cards and seats, and its history is the legal one of
--- the touches that were found, with seat 0
-pub record IsOpeningOf {D : Type 0} (fares : Fares) (cards seats : ℕ) (opening : OpeningState D)
+-- the opening is by these tables, of which the journal's header names the first, with so many cards
+-- and seats, and its history is the legal one of the touches that were found, which name no other
+-- table, with seat 0
+pub record IsOpeningOf {D : Type 0} (given : Tables) (cards seats : ℕ) (opening : OpeningState D)
     : Type 0 where
-  pub fares_is : opening.fares ≡ fares
+  pub tables_is : opening.tables ≡ given
   pub cards_is : opening.header.cards ≡ cards
-  pub digest_is : opening.header.digest ≡ digest_of fares
+  pub digest_is : opening.header.digest ≡ digest_of given.first
   pub seats_is : opening.seats ≡ seats
-  pub legal : IsLegal (scheme_of fares) cards (history_of opening.recovered)
+  pub legal : IsLegal given cards (history_of opening.recovered)
+  pub known : AreKnown given (touches_of opening.recovered)
   pub none_filed : All (λ entry. entry.seat ≡ 0) opening.recovered
 
--- the content is a journal of touches of which one repeats the gate and number of another, first at
--- this place
-pub record IsJournalledTwice (cards : ℕ) (digest content : List ℕ) (fault : JournalFault) : Type 0
+-- the touch at this place repeats the gate and number of another, and is the first that a book of
+-- these tables doesn't enter
+pub record IsTwice (tables : Tables) (touches : List Touch) (fault : JournalFault) : Type 0 where
+  pub place : ℕ
+  pub is : fault ≡ Damaged place
+  pub repeats : IsRepeatedAt tables touches place
+
+-- the touch at this place is a revision to a table that isn't there, and is the first that a book
+-- of these tables doesn't enter
+pub record IsOfNoTable (tables : Tables) (touches : List Touch) (fault : JournalFault) : Type 0
+  where
+    pub place : ℕ
+    pub is : fault ≡ MissingTable place
+    pub missing : IsMissingAt tables touches place
+
+-- this is a cause for which no book of these tables enters the touches: that of the first that it
+-- doesn't enter
+abbrev pub HasTouchCause : Tables → List Touch → JournalFault → Type 0
+HasTouchCause tables touches fault = IsTwice tables touches fault ⊎ IsOfNoTable tables touches fault
+
+-- the content is a journal of touches that no book of these tables enters, for this cause
+pub record IsNoBook (tables : Tables) (cards : ℕ) (content : List ℕ) (fault : JournalFault) : Type 0
   where
     pub capacity : ℕ
     pub touches : List Touch
-    pub place : ℕ
-    pub image : Image (header_of capacity cards digest) touches content
-    pub repeats : IsFirstRepeat touches place
-    pub is : fault ≡ Damaged place
+    pub image : Image (header_by capacity cards tables) touches content
+    pub cause : HasTouchCause tables touches fault
 
--- this is a cause for which the content can't be opened with these cards and this table
-abbrev pub HasOpenCause : ℕ → List ℕ → List ℕ → JournalFault → Type 0
-HasOpenCause cards digest content fault =
-    HasCause cards digest content fault ⊎ IsJournalledTwice cards digest content fault
+-- this is a cause for which the content can't be opened with these tables and so many cards
+abbrev pub HasOpenCause : Tables → ℕ → List ℕ → JournalFault → Type 0
+HasOpenCause tables cards content fault =
+    HasCause cards (digest_of tables.first) content fault ⊎ IsNoBook tables cards content fault
 
 -- memory was refused or the disk failed
 abbrev pub IsWant : JournalFault → Type 0
@@ -108,10 +130,10 @@ pub record AreNewDesks (count : ℕ) (recovered : List Entry) (desks : List Know
   pub all : length desks ≡ count
   pub each : All (λ desk. desk ≡ record { list = recovered; notes = [] }) desks
 
--- the story has just begun, with the entries of the book and the table by which they are judged
-pub record IsTold (fares : Fares) (book : Book) (story : Story) : Type 0 where
+-- the story has just begun, with the entries of the book and the tables by which they are judged
+pub record IsTold (book : Book) (story : Story) : Type 0 where
   pub tells : told story.seen.log ≡ entries_of book
-  pub by : table_of story.seen.log ≡ Some (fares, cards_of book)
+  pub by : table_of story.seen.log ≡ Some (tables_of book, cards_of book)
   pub fresh : story.steps ≡ 0
 
 -- there are so many seats, without receipts and numbered from 1 on
@@ -122,15 +144,15 @@ pub record AreFresh (count : ℕ) (seats : List SeatState) : Type 0 where
       → slice_index_or seats place other ≡ fresh_seat (place + 1)
 
 module _ {D : Type 0} {g : Ghosts D} where
-  -- the book and the journal are of the same touches, found under this table, and the two ledgers
-  -- have a part for each seat
-  pub record IsRead (fares : Fares) (book : Book) (journal : Journal D g) (seats : ℕ)
+  -- the book and the journal are of the same touches, found under the book's tables, and the two
+  -- ledgers have a part for each seat
+  pub record IsRead (book : Book) (journal : Journal D g) (seats : ℕ)
       (receipt_parts number_parts : ℕ) : Type 0 where
-    pub legal : BookStands (scheme_of fares) book
+    pub legal : BookStands book
     pub none_filed : All (λ entry. entry.seat ≡ 0) (entries_of book)
     pub limit : capacity_of journal ≤ HISTORY_LIMIT
     pub going : is_stopped journal ≡ false
-    pub stands : Stands (header_of (capacity_of journal) (cards_of book) (digest_of fares))
+    pub stands : Stands (header_by (capacity_of journal) (cards_of book) (tables_of book))
         (touches_of (entries_of book)) journal
     pub some_seats : 1 ≤ seats
     pub seat_limit : seats ≤ SEAT_LIMIT

@@ -68,7 +68,6 @@ impl<N: Named, D: Disk> Keeper<N, D> {
             × (All (AreAtPlaces (entries_of r.book)) seats.items → ⊥))) }
     {
         let Keeper {
-            fares,
             book,
             journal,
             publisher,
@@ -79,7 +78,6 @@ impl<N: Named, D: Disk> Keeper<N, D> {
             numbers,
             mark,
         } = self;
-        drop(fares);
         let _published = publisher.close(rt);
         let disk = journal.close();
         if seats.len() != made as usize {

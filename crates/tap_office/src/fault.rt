@@ -17,13 +17,16 @@ pub enum SubmitFault {
     /// 5: the journal holds as many touches as its capacity.
     #[error("the journal is full")]
     Full,
+    /// 6: the touch revises fares to a table that the office wasn't opened with.
+    #[error("the table is not supplied")]
+    UnknownTable,
 }
 
 impl SubmitFault {
     ghost use Rattle.std.specs.Prelude.{◌≡◌};
     ghost use Rattle.tap_office.specs.Fault.{fault_code};
 
-    /// The fault's number in a fault frame: 2 to 5.
+    /// The fault's number in a fault frame: 2 to 6.
     pub fn code(self) -> u8
         ensures { result ≡ fault_code self }
     {
@@ -32,6 +35,7 @@ impl SubmitFault {
             SubmitFault::Halted => 3,
             SubmitFault::Memory => 4,
             SubmitFault::Full => 5,
+            SubmitFault::UnknownTable => 6,
         }
     }
 }

@@ -1,8 +1,8 @@
 //! Laws of the office, each the contract of a call that does nothing.
 ghost use Rattle.std.specs.Prelude.{◌≡◌, ℕ, ◌<◌, ◌≤◌, List, length, take, Some, slice_get};
-ghost use Rattle.oyster_account.specs.Scheme.{Scheme};
 ghost use Rattle.tap_journal.specs.Layout.{Header};
-ghost use Rattle.reply_book.specs.Legal.{history_of, IsLegal};
+ghost use Rattle.reply_book.specs.Legal.{history_of};
+ghost use Rattle.tap_office.specs.Given.{IsLegalFor};
 ghost use Rattle.tap_office.specs.Keeper.{IsHaltedByDisk, IsLeft};
 ghost use Rattle.tap_office.specs.Rounds.{Round, AreRounds, IsKeptIn};
 
@@ -11,19 +11,21 @@ use crate::name::Named;
 use tap_disk::Disk;
 
 /// Over any list of rounds, each of them an opening, commits and a crash: what a round finds has
-/// every touch that was released in an earlier one, in order and at its place, and its book has
-/// each with the reply that it had there.
+/// every touch that was released in an earlier one, in order and at its place. Where it was opened
+/// with the same first table, and given every table that these touches name, its book has each with
+/// the reply that it had there, whatever other tables it was given.
 pub fn rounds_keep_what_was_released()
-    ensures { (scheme : Scheme) (h : Header) (rounds : List Round) → AreRounds h rounds
+    ensures { (h : Header) (rounds : List Round) → AreRounds h rounds
         → (i j : ℕ) (earlier later : Round) → i < j → slice_get rounds i ≡ Some earlier
-        → slice_get rounds j ≡ Some later → IsKeptIn scheme h earlier later }
+        → slice_get rounds j ≡ Some later → IsKeptIn h earlier later }
 {}
 
-/// What holds whenever the lock is free: the history is legal, begins with what was found at the
-/// opening, and is what is published; and the disk has its touches, with one more or without where
-/// the keeper is halted, which it is only where a call of the disk has failed.
+/// What holds whenever the lock is free: the history is legal by the opening's tables, begins with
+/// what was found at the opening, and is what is published; and the disk has its touches, with one
+/// more or without where the keeper is halted, which it is only where a call of the disk has
+/// failed.
 pub fn the_lock_keeps<N: Named, D: Disk>(keeper: &Keeper<N, D>)
-    ensures legal { IsLegal N.opened.scheme N.opened.header.cards (history_of keeper.now.history) }
+    ensures legal { IsLegalFor N.opened (history_of keeper.now.history) }
     ensures begins { take (length N.opened.recovered) keeper.now.history ≡ N.opened.recovered }
     ensures published { keeper.now.published ≡ keeper.now.history }
     ensures left { IsLeft D.honest D.content D.outcome N.opened.header keeper.now.history

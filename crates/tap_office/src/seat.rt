@@ -14,7 +14,7 @@ use std::sync::ledger::Share;
 
 /// From where touches are committed, one after the other. It keeps a receipt for each new one.
 ///
-/// The receipts are what `close` accounts by: 48 bytes a touch, for as long as the seat is there.
+/// The receipts are what `close` accounts by: 80 bytes a touch, for as long as the seat is there.
 #[derive(Drop)]
 pub struct Seat<N: Named> {
     pub(crate) number: u16,

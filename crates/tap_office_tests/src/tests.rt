@@ -4,10 +4,15 @@ mod crashes;
 mod desks;
 mod memory;
 mod openings;
+mod revisions;
 mod steps;
 mod threads;
 
-use fare_table::{EXAMPLE_TABLE, Fares, TableFault};
+ghost use Rattle.std.specs.Prelude.{◌≡◌, [], IfSome};
+ghost use Rattle.fare_schedule.specs.Schedule.{revisions_of};
+
+use fare_schedule::Schedule;
+use fare_table::{EXAMPLE_TABLE, Fares};
 use oyster_account::{Act, CardState, CardView, Reply, Touch};
 use reply_book::Book;
 use std::alloc::Global;
@@ -108,6 +113,31 @@ fn table(alloc: Global) -> Option<Fares> {
     Fares::read(alloc, EXAMPLE_TABLE).ok()
 }
 
+/// Which tables an office is opened with.
+#[derive(Clone, Copy, Debug, PartialEq, Eq)]
+enum Given {
+    /// The example table alone.
+    Example,
+    /// The example table, and the revised one supplied.
+    Revised,
+}
+
+/// A schedule of these tables, without a revision.
+fn schedule(alloc: Global, given: Given) -> Option<Schedule>
+    ensures { IfSome result (λ schedule. revisions_of schedule ≡ []) }
+{
+    let Ok(mut schedule) = Schedule::new(alloc, table(alloc)?) else {
+        return None;
+    };
+    if given == Given::Example {
+        return Some(schedule);
+    }
+    match schedule.supply(revisions::table(alloc)?) {
+        Ok(()) => Some(schedule),
+        Err(_) => None,
+    }
+}
+
 /// A journal of no touches.
 fn new_journal(alloc: Global, capacity: u32) -> Option<Journal<MemoryDisk>> {
     let digest = table(alloc)?.digest();
@@ -137,10 +167,22 @@ fn crashed(rt: &impl Abort, disk: &MemoryDisk, choice: Choice) -> MemoryDisk {
 /// An opening of the disk, or why there is none.
 type Read = Result<Opening<MemoryDisk>, OpenFault<MemoryDisk>>;
 
+/// Reads the disk, by these tables.
+fn read_with(
+    rt: &impl Abort,
+    alloc: Global,
+    disk: MemoryDisk,
+    given: Given,
+    cards: u32,
+    seats: u16,
+) -> Read {
+    let schedule = schedule(alloc, given).expect(rt, "the tables weren't read");
+    Opening::read(alloc, disk, schedule, cards, seats)
+}
+
 /// Reads the disk, by the example table.
 fn read(rt: &impl Abort, alloc: Global, disk: MemoryDisk, cards: u32, seats: u16) -> Read {
-    let fares = table(alloc).expect(rt, "the table wasn't read");
-    Opening::read(alloc, disk, fares, cards, seats)
+    read_with(rt, alloc, disk, Given::Example, cards, seats)
 }
 
 /// How an office ended.

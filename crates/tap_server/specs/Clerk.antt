@@ -9,7 +9,7 @@ use Rattle.gate_session.specs.declared.request.Request.TheVariants as requests
 use Rattle.gate_session.specs.declared.answer.Answer.{Answer}
 use Rattle.gate_session.specs.declared.answer.Answer.TheVariants as answers
 use Rattle.reply_book.specs.declared.entry.Entry.{Entry}
-use Rattle.reply_book.specs.Legal.{IsLegal, history_of}
+use Rattle.reply_book.specs.Legal.{history_of}
 use Rattle.tap_desk.specs.declared.desk.Enquiry.{Enquiry}
 use Rattle.tap_desk.specs.Desks.{Known}
 use Rattle.tap_desk.specs.Listed.{BeginsWith}
@@ -17,6 +17,7 @@ use Rattle.tap_office.specs.declared.fault.SubmitFault.{SubmitFault}
 use Rattle.tap_office.specs.declared.receipt.Filed.{Filed}
 use Rattle.tap_office.specs.Enquiry.{IsAnswerFrom}
 use Rattle.tap_office.specs.Fault.{fault_code}
+use Rattle.tap_office.specs.Given.{IsLegalFor}
 use Rattle.tap_office.specs.Name.{Opened}
 use Rattle.tap_office.specs.Seat.{SeatState}
 
@@ -51,7 +52,7 @@ pub record DeskGoesOn (requests : ℕ) (before after : Known) : Type 0 where
 pub record IsReplied (opened : Opened) (before after : ClerkState) (touch : Touch) (answer : Answer)
     : Type 0 where
   pub note : List Entry
-  pub legal : IsLegal opened.scheme opened.header.cards (history_of note)
+  pub legal : IsLegalFor opened (history_of note)
   pub begins : take (length opened.recovered) note ≡ opened.recovered
   pub place : ℕ
   pub reply : Reply

@@ -1,4 +1,5 @@
--- What `serve` writes on standard output (docs/OPERATING.md, "The report"; this project's choice).
+-- What `serve` and `migrate` write on standard output (docs/OPERATING.md, "The report" and "migrate";
+-- this project's choice).
 use Rattle.std.specs.Prelude.{ℕ, ◌+◌, Bool, List, [], ◌∷◌, ◌++◌, codes, if◌then◌else◌}
 use Rattle.std.specs.Fmt.{decimal}
 use Rattle.tap_server.specs.declared.tally.Tally.{Tally}
@@ -6,6 +7,10 @@ use Rattle.tap_server.specs.declared.tally.Tally.{Tally}
 -- a name, a number, and what comes behind them
 abbrev pub told : List ℕ → ℕ → List ℕ → List ℕ
 told name number later = name ++ (decimal number ++ later)
+
+-- a journal was carried over with so many touches
+abbrev pub migrated_line : ℕ → List ℕ
+migrated_line touches = told (codes "migrated ") touches (codes "\n")
 
 -- how many touches were found in the journal
 abbrev pub opened_line : ℕ → List ℕ

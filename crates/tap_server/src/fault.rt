@@ -2,33 +2,41 @@
 
 ghost use Rattle.std.specs.Prelude.{◌≡◌};
 ghost use Rattle.line_replay.specs.declared.fault.RunFault.TheVariants.{Memory};
-ghost use Rattle.tap_server.specs.declared.fault.CommandFault.TheVariants.{Journal, Run};
+ghost use Rattle.tap_server.specs.declared.fault.CommandFault.TheVariants.{Journal, Migrate, Run};
 ghost use Rattle.tap_server.specs.Command.{command_fault};
 
 use clap::Error as LineError;
 use clap::error::ErrorKind;
+use fare_schedule::SupplyFault;
 use fare_table::TableFault;
 use line_replay::RunFault;
 use std::alloc::AllocError;
-use tap_journal::JournalFault;
+use tap_journal::{JournalFault, MigrateCause};
 use tap_office::CloseCause;
 use thiserror::Error;
 
 /// Why a command wasn't done.
 #[derive(Debug, Drop, Error)]
 pub enum CommandFault {
-    /// The command line asks for help, or for nothing that the program does.
+    /// The command line asks for help or the version, or for nothing that the program does.
     #[error("{0}")]
     Line(LineError),
-    /// A file of the command line can't be opened, or not be read to its end.
+    /// A file of the command line can't be opened or made, or can't be read to its end.
     #[error("fault file")]
     File,
     /// The file's fare table is refused.
     #[error("{0}")]
     Table(TableFault),
+    /// The table in the file of this place among the further ones, from 1, is refused beside the
+    /// tables before it.
+    #[error("fault supply {0} {1}")]
+    Supply(SupplyFault, usize),
     /// The journal can't be made or opened.
     #[error("fault journal {0}")]
     Journal(JournalFault),
+    /// The journal can't be carried over to the new file.
+    #[error("fault migrate {0}")]
+    Migrate(MigrateCause),
     /// The address can't be listened on.
     #[error("fault listen")]
     Listen,
@@ -76,6 +84,14 @@ impl From<JournalFault> for CommandFault {
 
     fn from(fault: JournalFault) -> CommandFault {
         CommandFault::Journal(fault)
+    }
+}
+
+impl From<MigrateCause> for CommandFault {
+    ghost from_gives = { λ given fault. fault ≡ Migrate given };
+
+    fn from(cause: MigrateCause) -> CommandFault {
+        CommandFault::Migrate(cause)
     }
 }
 

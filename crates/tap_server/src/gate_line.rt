@@ -5,10 +5,8 @@ ghost use Rattle.tap_server.specs.Post.{HasGivenMore};
 
 use std::io::{Read, Write};
 use std::net::{TcpListener, TcpStream};
-use std::time::Duration;
-
-/// How often a line takes up the next connection in place of one that was gone at once.
-const ATTEMPTS: u32 = 1_000;
+use std::time::Clock;
+use tcp_line::TcpLine;
 
 /// A line over which gates connect, one after the other.
 pub(crate) trait GateLine {
@@ -27,40 +25,12 @@ pub(crate) trait GateLine {
             (if is_some result then 1 else 0) };
 }
 
-/// A line over TCP. All lines of a server take their connections from one listener.
-#[derive(Drop)]
-pub(crate) struct TcpLine<'a> {
-    listener: &'a TcpListener,
-    idle: Option<Duration>,
-}
-
-impl TcpLine<'_> {
-    /// A line of this listener. A gate that sends nothing for as long as `idle` says is given up.
-    pub(crate) fn new<'a>(listener: &'a TcpListener, idle: Option<Duration>) -> TcpLine<'a> {
-        TcpLine { listener, idle }
-    }
-
-    /// One connection, whose answers are sent at once.
-    fn accept(&self) -> Option<(TcpStream, TcpStream)> {
-        let (stream, _) = self.listener.accept().ok()?;
-        stream.set_nodelay(true).ok()?;
-        stream.set_read_timeout(self.idle).ok()?;
-        let writer = stream.try_clone().ok()?;
-        Some((stream, writer))
-    }
-}
-
-impl GateLine for TcpLine<'_> {
+impl<R: Clock + Eprint> GateLine for TcpLine<'_, R, TcpListener> {
     type R = TcpStream;
 
     type W = TcpStream;
 
     fn connect(&mut self) -> Option<(TcpStream, TcpStream)> {
-        for _ in 0..ATTEMPTS {
-            if let Some(connection) = self.accept() {
-                return Some(connection);
-            }
-        }
-        None
+        self.next()
     }
 }

@@ -9,16 +9,19 @@ mod check;
 mod clerk;
 mod fault;
 mod gate_line;
+mod migrate;
 mod post;
 mod report;
 mod server;
+mod tables;
 mod tally;
 
-use crate::check::{check_table, table_of};
+use crate::check::check_table;
 use crate::fault::CommandFault;
+use crate::migrate::migrate_journal;
 use crate::server::serve_gates;
+use crate::tables::{first_table, schedule_of};
 use command_line::{Arguments, arguments_of, refuse_bytes};
-use fare_table::{EXAMPLE_TABLE, Fares};
 use line_replay::{RunFault, replay_text};
 use std::fs::File;
 use std::net::{Net, TcpListener, TcpStream};
@@ -26,6 +29,7 @@ use std::process::ExitCode;
 use std::rt::{Env, Files};
 use std::sync::Wait;
 use std::thread::Threads;
+use std::time::Clock;
 use std::{env, io};
 
 /// How many reads a command makes of its input at most.
@@ -47,6 +51,7 @@ fn run<
         + Print
         + Eprint
         + Net<Listener = TcpListener, Stream = TcpStream>
+        + Clock
         + Threads
         + Wait
         + Sync,
@@ -54,12 +59,14 @@ fn run<
     let words = words(rt)?;
     let words: Vec<&str> = words.iter().map(|word| word.as_str()).collect(rt.alloc())?;
     match arguments_of(rt.alloc(), words.as_slice())? {
-        Arguments::Replay { table, cards } => replay_input(rt, table, cards),
+        Arguments::Replay {
+            table,
+            cards,
+            revisions,
+        } => replay_input(rt, table, revisions.as_slice(), cards),
         Arguments::Check { table } => check_file(rt, table),
-        Arguments::Serve(asked) => {
-            let fares = fares_of(rt, Some(asked.table))?;
-            serve_gates(rt, fares, &asked)
-        }
+        Arguments::Serve(asked) => serve_gates(rt, &asked),
+        Arguments::Migrate(asked) => migrate_journal(rt, &asked),
     }
 }
 
@@ -72,31 +79,21 @@ fn words<R: AllocGlobal + Env>(rt: &R) -> Result<Vec<String>, CommandFault> {
     }
 }
 
-/// Replays standard input to standard output, by the fare table in a file or the example table.
-/// The table is looked at before any input is read.
+/// Replays standard input to standard output, by the fare table in a file or the example table, and
+/// by further tables. The tables are looked at before any input is read.
 fn replay_input<R: AllocGlobal + Files + Input + Print>(
     rt: &R,
     table: Option<&str>,
+    revisions: &[&str],
     cards: u32,
 ) -> Result<ExitCode, CommandFault>
     requires { IsWithin 100_000 cards }
 {
-    let fares = fares_of(rt, table)?;
+    let schedule = schedule_of(rt, first_table(rt, table)?, revisions)?;
     let mut reader = rt.reader();
     let mut writer = io::writer(rt);
-    replay_text(rt.alloc(), &fares, cards, &mut reader, &mut writer, TURNS)?;
+    replay_text(rt.alloc(), schedule, cards, &mut reader, &mut writer, TURNS)?;
     Ok(ExitCode::SUCCESS)
-}
-
-/// The fare table in a file, or the example table where no file is named.
-fn fares_of<R: AllocGlobal + Files>(rt: &R, path: Option<&str>) -> Result<Fares, CommandFault> {
-    match path {
-        Some(path) => {
-            let mut file = File::open(rt, path).map_err(|_| CommandFault::File)?;
-            table_of(rt.alloc(), &mut file, TURNS)
-        }
-        None => Ok(Fares::read(rt.alloc(), EXAMPLE_TABLE)?),
-    }
 }
 
 /// Checks the fare table in a file, and writes to standard output what it is.

@@ -1,8 +1,9 @@
-//! What `serve` writes on standard output (docs/OPERATING.md, "The report"). It takes no memory.
+//! What `serve` and `migrate` write on standard output (docs/OPERATING.md, "The report" and "migrate").
+//! It takes no memory.
 
 ghost use Rattle.std.specs.Prelude.{◌≡◌, OnOk};
 ghost use Rattle.std.specs.Io.KnownBytes.{Appends};
-ghost use Rattle.tap_server.specs.Report.{opened_line, tally_line, tally_lines, end_line, report_text};
+ghost use Rattle.tap_server.specs.Report.{opened_line, tally_line, tally_lines, end_line, report_text, migrated_line};
 
 use crate::tally::Tally;
 use std::io;
@@ -17,7 +18,16 @@ pub fn write_opened<W: Write>(writer: &mut W, opened: u32) -> io::Result<()>
     writer.flush()
 }
 
-/// Writes the lines behind it: each gate line's, in their order, and the last.
+/// Writes the line of a journal that was carried over: how many touches it has.
+pub fn write_migrated<W: Write>(writer: &mut W, touches: u32) -> io::Result<()>
+    ensures { OnOk result (Appends (W.contents writer.old) (W.contents writer.new)
+        (migrated_line touches)) }
+{
+    write!(writer, "migrated {touches}\n")?;
+    writer.flush()
+}
+
+/// Writes the lines behind that of the opening: each gate line's, in their order, and the last.
 pub fn write_report<W: Write>(
     writer: &mut W,
     tallies: &[Tally],

@@ -8,12 +8,12 @@ ghost use Rattle.command_line.specs.Arguments.{IsServeAllowed, IsWithin};
 ghost use Rattle.tap_server.specs.Tally.{IsBelow};
 
 use crate::fault::CommandFault;
-use crate::gate_line::{GateLine, TcpLine};
+use crate::gate_line::GateLine;
 use crate::post::{Post, serve_all};
 use crate::report::{write_opened, write_report};
+use crate::tables::{first_table, schedule_of};
 use crate::tally::Tally;
 use command_line::Serve;
-use fare_table::Fares;
 use line_replay::RunFault;
 use std::alloc::{AllocError, Global};
 use std::fs::File;
@@ -24,42 +24,49 @@ use std::net::{Net, TcpListener, TcpStream};
 use std::process::ExitCode;
 use std::rt::Files;
 use std::sync::Wait;
+use std::sync::atomic::AtomicBool;
 use std::thread::Threads;
-use std::time::Duration;
+use std::time::{Clock, Duration};
 use tap_disk::{Disk, FileDisk};
 use tap_journal::{Journal, JournalFault};
 use tap_office::{Closed, Desk, Named, Office, Opening, Seat};
+use tcp_line::TcpLine;
 
 /// How many reads a session makes at most.
 const TURNS: u32 = 1_000_000;
 
 /// Opens the office of a journal, which is made where its file is empty, serves gates until all lines
-/// are done, closes the office and writes the report.
+/// are done, closes the office and writes the report. The tables are looked at before the journal.
 pub(crate) fn serve_gates<
     R: AllocGlobal
         + Files<File = File>
         + Net<Listener = TcpListener, Stream = TcpStream>
+        + Clock
         + Threads
         + Wait
         + Sync
         + Print
         + Eprint,
->(rt: &R, fares: Fares, asked: &Serve<'_>) -> Result<ExitCode, CommandFault>
+>(rt: &R, asked: &Serve<'_>) -> Result<ExitCode, CommandFault>
     requires { IsServeAllowed asked.now }
 {
-    let disk = journal_disk(rt, &fares, asked)?;
+    let first = first_table(rt, Some(asked.table))?;
+    let digest = first.digest();
+    let schedule = schedule_of(rt, first, asked.revisions.as_slice())?;
+    let disk = journal_disk(rt, &digest, asked)?;
     let seats = asked.lines as u16;
-    let opening = match Opening::read(rt.alloc(), disk, fares, asked.cards, seats) {
+    let opening = match Opening::read(rt.alloc(), disk, schedule, asked.cards, seats) {
         Ok(opening) => opening,
         Err(fault) => return Err(fault.cause.into()),
     };
     serve_opening::<Brand, FileDisk, R>(rt, opening, asked)
 }
 
-/// The disk of the journal's file, with a journal of no touches where the file is empty.
+/// The disk of the journal's file, with a journal of no touches, for the first table of this digest,
+/// where the file is empty.
 fn journal_disk<R: AllocGlobal + Files<File = File>>(
     rt: &R,
-    fares: &Fares,
+    digest: &[u8; 32],
     asked: &Serve<'_>,
 ) -> Result<FileDisk, CommandFault> {
     let mut disk = FileDisk::at(rt, asked.journal).map_err(|_| CommandFault::File)?;
@@ -69,7 +76,7 @@ fn journal_disk<R: AllocGlobal + Files<File = File>>(
     if size > 0 {
         return Ok(disk);
     }
-    match Journal::create(disk, asked.capacity, asked.cards, &fares.digest()) {
+    match Journal::create(disk, asked.capacity, asked.cards, digest) {
         Ok(journal) => Ok(journal.close()),
         Err(fault) => Err(fault.cause.into()),
     }
@@ -81,6 +88,7 @@ fn serve_opening<
     D: Disk + Drop + Send,
     R: AllocGlobal
         + Net<Listener = TcpListener, Stream = TcpStream>
+        + Clock
         + Threads
         + Wait
         + Sync
@@ -96,7 +104,12 @@ fn serve_opening<
         Err(fault) => return Err(fault.cause.into()),
     };
     let listener = TcpListener::bind(rt, asked.listen).map_err(|_| CommandFault::Listen)?;
-    let posts = make_posts(alloc, &listener, asked.idle, seats, desks)?;
+    let told = AtomicBool::new(false);
+    let idle = asked
+        .idle
+        .map(|seconds| Duration::from_secs(u64::from(seconds)));
+    let line = TcpLine::new(rt, &listener, &told, idle);
+    let posts = make_posts(alloc, &line, seats, desks)?;
     let listening = listening_line(alloc, &listener)?;
     let mut output = output_of(alloc, io::writer(rt))?;
     serve_office(
@@ -155,20 +168,18 @@ fn serve_office<
     }
 }
 
-/// The posts of a server: a line for each seat, with its desk.
-fn make_posts<'a, N: Named>(
+/// The posts of a server: a line like this one for each seat, with its desk.
+fn make_posts<'a, N: Named, R: Clock + Eprint>(
     alloc: Global,
-    listener: &'a TcpListener,
-    idle: Option<u32>,
+    line: &TcpLine<'a, R, TcpListener>,
     seats: Vec<Seat<N>>,
     desks: Vec<Desk<N>>,
-) -> Result<Vec<Post<TcpLine<'a>, N>>, AllocError>
+) -> Result<Vec<Post<TcpLine<'a, R, TcpListener>, N>>, AllocError>
     ensures { IfOk result (λ posts. All (λ post. IsBelow (2 ^ 62) post.tally) posts.items) }
 {
-    let idle = idle.map(|seconds| Duration::from_secs(u64::from(seconds)));
     let mut posts = Vec::with_capacity(alloc, seats.len())?;
     for (seat, desk) in seats.into_iter().zip(desks) {
-        posts.push(new_post(TcpLine::new(listener, idle), seat, desk))?;
+        posts.push(new_post(line.another(), seat, desk))?;
     }
     Ok(posts)
 }

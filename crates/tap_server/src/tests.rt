@@ -6,12 +6,13 @@ mod serve;
 mod sessions;
 
 use crate::fault::CommandFault;
+use fare_schedule::{Schedule, SupplyFault};
 use fare_table::{EXAMPLE_TABLE, Fares, TableFault};
 use line_replay::RunFault;
 use std::alloc::Global;
 use std::process::Abort;
 use tap_disk::{Choice, MemoryDisk};
-use tap_journal::{Journal, JournalFault};
+use tap_journal::{Journal, JournalFault, MigrateCause};
 use tap_office::{CloseCause, Opening};
 
 /// A disk in memory with a new journal of a table, for so many touches of 10 cards.
@@ -25,7 +26,8 @@ fn new_disk(alloc: Global, digest: &[u8; 32], capacity: u32) -> Option<MemoryDis
 fn new_opening(alloc: Global, capacity: u32, seats: u16) -> Option<Opening<MemoryDisk>> {
     let fares = Fares::read(alloc, EXAMPLE_TABLE).ok()?;
     let disk = new_disk(alloc, &fares.digest(), capacity)?;
-    Opening::read(alloc, disk, fares, 10, seats).ok()
+    let schedule = Schedule::new(alloc, fares).ok()?;
+    Opening::read(alloc, disk, schedule, 10, seats).ok()
 }
 
 /// The fault is told in this line.
@@ -42,6 +44,8 @@ fn a_fault_is_told_in_one_line(rt: HostRuntime) {
     assert_told(&rt, RunFault::BadLine(7).into(), "fault run 4 BadLine 7");
     assert_told(&rt, CommandFault::File, "fault file");
     assert_told(&rt, CommandFault::Listen, "fault listen");
+    let zone = CommandFault::Supply(SupplyFault::OtherZone, 1);
+    assert_told(&rt, zone, "fault supply 3 OtherZone 1");
 }
 
 #[test]
@@ -53,6 +57,10 @@ fn a_fault_of_a_part_is_told_as_the_commands(rt: HostRuntime) {
     assert_told(&rt, wrong.into(), "fault journal 5 WrongTable");
     let damaged = JournalFault::Damaged(0);
     assert_told(&rt, damaged.into(), "fault journal 7 Damaged 0");
+    let missing = JournalFault::MissingTable(4);
+    assert_told(&rt, missing.into(), "fault journal 13 MissingTable 4");
+    let old = MigrateCause::Old(JournalFault::WrongTable);
+    assert_told(&rt, old.into(), "fault migrate 3 Old 5 WrongTable");
     let seats = CloseCause::SeatMissing;
     assert_told(&rt, seats.into(), "fault close 1 SeatMissing");
 }

@@ -3,8 +3,9 @@
 
 use crate::reply::CardState;
 use crate::touch::Act;
-use fare_table::{Cap, Fare, Fares};
-use money_time::{Stamp, Window};
+use fare_schedule::Schedule;
+use fare_table::{Cap, Fare};
+use money_time::Stamp;
 use std::alloc::{AllocError, Global};
 
 /// A touch in or out.
@@ -58,10 +59,15 @@ impl Plain {
     }
 
     /// Gives an act to the card.
-    pub fn give(&mut self, fares: &Fares, act: Act, stamp: Stamp) -> Result<Answer, AllocError> {
-        let before = self.travel(fares)?;
-        let old = self.balance(fares, &before);
-        if let Some(verdict) = self.refusal(fares, &before, act, stamp, old) {
+    pub fn give(
+        &mut self,
+        schedule: &Schedule,
+        act: Act,
+        stamp: Stamp,
+    ) -> Result<Answer, AllocError> {
+        let before = self.travel(schedule)?;
+        let old = self.balance(schedule, &before);
+        if let Some(verdict) = self.refusal(schedule, &before, act, stamp, old) {
             return Ok(Answer {
                 verdict,
                 change: 0,
@@ -70,10 +76,10 @@ impl Plain {
             });
         }
         self.acts.push((act, stamp))?;
-        let after = self.travel(fares)?;
-        let balance = self.balance(fares, &after);
+        let after = self.travel(schedule)?;
+        let balance = self.balance(schedule, &after);
         Ok(Answer {
-            verdict: verdict(fares, &after, act),
+            verdict: verdict(schedule, &after, act),
             change: balance.saturating_sub(old),
             balance,
             state: self.state(&after),
@@ -99,7 +105,7 @@ impl Plain {
     }
 
     /// The balance, in pence.
-    fn balance(&self, fares: &Fares, travel: &Travel) -> i64 {
+    fn balance(&self, schedule: &Schedule, travel: &Travel) -> i64 {
         let mut balance = 0i64;
         for (act, _) in &self.acts {
             if let Act::TopUp { pence, .. } = act {
@@ -107,12 +113,12 @@ impl Plain {
             }
         }
         balance
-            .saturating_sub(journeys_charge(fares, travel.journeys.as_slice()))
-            .saturating_sub(missing_charge(fares, travel))
+            .saturating_sub(journeys_charge(schedule, travel.journeys.as_slice()))
+            .saturating_sub(missing_charge(schedule, travel))
     }
 
     /// The touches in and out, their legs and their journeys.
-    fn travel(&self, fares: &Fares) -> Result<Travel, AllocError> {
+    fn travel(&self, schedule: &Schedule) -> Result<Travel, AllocError> {
         let mut taps = Vec::new(self.alloc);
         for (act, stamp) in &self.acts {
             match act {
@@ -126,11 +132,11 @@ impl Plain {
                     station: *station,
                     stamp: *stamp,
                 })?,
-                Act::TopUp { .. } | Act::Issue { .. } => {}
+                Act::TopUp { .. } | Act::Issue { .. } | Act::Revise { .. } => {}
             }
         }
-        let legs = legs(self.alloc, fares, taps.as_slice())?;
-        let journeys = journeys(self.alloc, fares, legs.as_slice())?;
+        let legs = legs(self.alloc, schedule, taps.as_slice())?;
+        let journeys = journeys(self.alloc, schedule, legs.as_slice())?;
         Ok(Travel {
             taps,
             legs,
@@ -141,7 +147,7 @@ impl Plain {
     /// The code of the first refusal that holds.
     fn refusal(
         &self,
-        fares: &Fares,
+        schedule: &Schedule,
         travel: &Travel,
         act: Act,
         stamp: Stamp,
@@ -155,7 +161,7 @@ impl Plain {
         }
         match act {
             Act::Enter { station, .. } | Act::Leave { station, .. } => {
-                if fares.station(station).is_none() {
+                if schedule.on(stamp.day).station(station).is_none() {
                     return Some(22);
                 }
                 if let Some(last) = travel.taps.last()
@@ -168,21 +174,23 @@ impl Plain {
                 if pence == 0 || pence > 50_000 {
                     return Some(25);
                 }
-                if balance.saturating_add(i64::from(pence)) > i64::from(fares.balance_limit()) {
+                let limit = schedule.on(stamp.day).balance_limit();
+                if balance.saturating_add(i64::from(pence)) > i64::from(limit) {
                     return Some(26);
                 }
             }
-            Act::Issue { .. } => {}
+            Act::Issue { .. } | Act::Revise { .. } => {}
         }
         match act {
-            Act::Enter { .. } if balance < i64::from(fares.entry_minimum()) => Some(24),
+            Act::Enter { .. } if balance < i64::from(schedule.on(stamp.day).entry_minimum()) =>
+                Some(24),
             _ => None,
         }
     }
 }
 
 /// The code of an accepted act, which is the last one of the travel where it is a touch in or out.
-fn verdict(fares: &Fares, travel: &Travel, act: Act) -> u8 {
+fn verdict(schedule: &Schedule, travel: &Travel, act: Act) -> u8 {
     let place = travel.taps.len().saturating_sub(1);
     let is_after_in = match travel.taps.get(place.wrapping_sub(1)) {
         Some(before) => before.is_in,
@@ -190,7 +198,7 @@ fn verdict(fares: &Fares, travel: &Travel, act: Act) -> u8 {
     };
     match act {
         Act::Enter { .. } if is_after_in => 3,
-        Act::Enter { .. } => match continued_at(fares, travel, place) {
+        Act::Enter { .. } => match continued_at(schedule, travel, place) {
             Some(_) => 2,
             None => 1,
         },
@@ -199,6 +207,7 @@ fn verdict(fares: &Fares, travel: &Travel, act: Act) -> u8 {
         Act::Leave { .. } => 5,
         Act::TopUp { .. } => 7,
         Act::Issue { .. } => 8,
+        Act::Revise { .. } => 9,
     }
 }
 
@@ -208,8 +217,9 @@ fn is_within(minutes: u32, earlier: Tap, later: Tap) -> bool {
     seconds <= i64::from(minutes).saturating_mul(60)
 }
 
-/// The minutes that a leg may take.
-fn leg_minutes(fares: &Fares, start: Tap, finish: Tap) -> u32 {
+/// The minutes that a leg may take, by the table of its touch in's day.
+fn leg_minutes(schedule: &Schedule, start: Tap, finish: Tap) -> u32 {
+    let fares = schedule.on(start.stamp.day);
     if fares.station(start.station).is_some() && fares.station(finish.station).is_some() {
         fares.leg_minutes(start.station, finish.station)
     } else {
@@ -217,9 +227,10 @@ fn leg_minutes(fares: &Fares, start: Tap, finish: Tap) -> u32 {
     }
 }
 
-/// The fare of a journey.
-fn fare(fares: &Fares, journey: Trip) -> Fare {
+/// The fare of a journey, by the table of its first touch in's day.
+fn fare(schedule: &Schedule, journey: Trip) -> Fare {
     let Trip { start, finish, .. } = journey;
+    let fares = schedule.on(start.stamp.day);
     if fares.station(start.station).is_some() && fares.station(finish.station).is_some() {
         fares.fare(start.station, finish.station, start.stamp.window)
     } else {
@@ -233,14 +244,14 @@ fn fare(fares: &Fares, journey: Trip) -> Fare {
 }
 
 /// The legs: each is a touch in, and directly after it a touch out in time.
-fn legs(alloc: Global, fares: &Fares, taps: &[Tap]) -> Result<Vec<Trip>, AllocError> {
+fn legs(alloc: Global, schedule: &Schedule, taps: &[Tap]) -> Result<Vec<Trip>, AllocError> {
     let mut legs = Vec::new(alloc);
     for (first, start) in taps.iter().enumerate() {
         let last = first.saturating_add(1);
         if let Some(finish) = taps.get(last)
             && start.is_in
             && !finish.is_in
-            && is_within(leg_minutes(fares, *start, *finish), *start, *finish)
+            && is_within(leg_minutes(schedule, *start, *finish), *start, *finish)
         {
             legs.push(Trip {
                 start: *start,
@@ -254,12 +265,12 @@ fn legs(alloc: Global, fares: &Fares, taps: &[Tap]) -> Result<Vec<Trip>, AllocEr
 }
 
 /// The journeys: longest rows of legs between which there are nothing but interchanges.
-fn journeys(alloc: Global, fares: &Fares, legs: &[Trip]) -> Result<Vec<Trip>, AllocError> {
+fn journeys(alloc: Global, schedule: &Schedule, legs: &[Trip]) -> Result<Vec<Trip>, AllocError> {
     let mut journeys = Vec::new(alloc);
     let mut row: Option<Trip> = None;
     for leg in legs {
         row = match row {
-            Some(journey) if is_change(fares, journey, leg.first, leg.start) => Some(Trip {
+            Some(journey) if is_change(schedule, journey, leg.first, leg.start) => Some(Trip {
                 start: journey.start,
                 finish: leg.finish,
                 first: journey.first,
@@ -278,8 +289,9 @@ fn journeys(alloc: Global, fares: &Fares, legs: &[Trip]) -> Result<Vec<Trip>, Al
     Ok(journeys)
 }
 
-/// Whether a touch in at a place of the list goes on with a journey.
-fn is_change(fares: &Fares, journey: Trip, place: usize, start: Tap) -> bool {
+/// Whether a touch in at a place of the list goes on with a journey, by the table of its day.
+fn is_change(schedule: &Schedule, journey: Trip, place: usize, start: Tap) -> bool {
+    let fares = schedule.on(start.stamp.day);
     match fares.interchange(journey.finish.station, start.station) {
         Some(minutes) => {
             journey.last.saturating_add(1) == place && is_within(minutes, journey.finish, start)
@@ -289,18 +301,19 @@ fn is_change(fares: &Fares, journey: Trip, place: usize, start: Tap) -> bool {
 }
 
 /// The journey that the touch in at a place of the list goes on with.
-fn continued_at(fares: &Fares, travel: &Travel, place: usize) -> Option<Trip> {
+fn continued_at(schedule: &Schedule, travel: &Travel, place: usize) -> Option<Trip> {
     let start = travel.taps.get(place)?;
     for journey in &travel.journeys {
-        if is_change(fares, *journey, place, *start) {
+        if is_change(schedule, *journey, place, *start) {
             return Some(*journey);
         }
     }
     None
 }
 
-/// What the touches that are in no leg are charged.
-fn missing_charge(fares: &Fares, travel: &Travel) -> i64 {
+/// What the touches that are in no leg are charged: each by the table of its own day, or of its
+/// journey's first touch in.
+fn missing_charge(schedule: &Schedule, travel: &Travel) -> i64 {
     let mut charge = 0i64;
     for (place, tap) in travel.taps.iter().enumerate() {
         if travel
@@ -310,17 +323,18 @@ fn missing_charge(fares: &Fares, travel: &Travel) -> i64 {
         {
             continue;
         }
-        let window: Window = match continued_at(fares, travel, place) {
-            Some(journey) if tap.is_in => journey.start.stamp.window,
-            _ => tap.stamp.window,
+        let stamp: Stamp = match continued_at(schedule, travel, place) {
+            Some(journey) if tap.is_in => journey.start.stamp,
+            _ => tap.stamp,
         };
-        charge = charge.saturating_add(i64::from(fares.maximum(window)));
+        let maximum = schedule.on(stamp.day).maximum(stamp.window);
+        charge = charge.saturating_add(i64::from(maximum));
     }
     charge
 }
 
 /// What the journeys are charged: each fare day once, with the first journey of it.
-fn journeys_charge(fares: &Fares, journeys: &[Trip]) -> i64 {
+fn journeys_charge(schedule: &Schedule, journeys: &[Trip]) -> i64 {
     let mut charge = 0i64;
     for (place, journey) in journeys.iter().enumerate() {
         let day = journey.start.stamp.day;
@@ -329,27 +343,32 @@ fn journeys_charge(fares: &Fares, journeys: &[Trip]) -> i64 {
             .take(place)
             .all(|other| other.start.stamp.day != day)
         {
-            charge = charge.saturating_add(day_charge(fares, journeys, day));
+            charge = charge.saturating_add(day_charge(schedule, journeys, day));
         }
     }
     charge
 }
 
-/// What the journeys of one fare day are charged.
-fn day_charge(fares: &Fares, journeys: &[Trip], day: i32) -> i64 {
-    let mut charge = day_sum(fares, journeys, day, None);
-    for cap in fares.caps() {
-        let capped = i64::from(cap.price).saturating_add(day_sum(fares, journeys, day, Some(*cap)));
+/// What the journeys of one fare day are charged, by the caps of its table.
+fn day_charge(schedule: &Schedule, journeys: &[Trip], day: i32) -> i64 {
+    let mut charge = day_sum(schedule, journeys, day, None);
+    for cap in schedule.on(day).caps() {
+        let capped = i64::from(cap.price).saturating_add(day_sum(
+            schedule,
+            journeys,
+            day,
+            Some(*cap),
+        ));
         charge = charge.min(capped);
     }
     charge
 }
 
 /// The fares of one fare day's journeys, but for those that a cap covers.
-fn day_sum(fares: &Fares, journeys: &[Trip], day: i32, cap: Option<Cap>) -> i64 {
+fn day_sum(schedule: &Schedule, journeys: &[Trip], day: i32, cap: Option<Cap>) -> i64 {
     let mut sum = 0i64;
     for journey in journeys {
-        let fare = fare(fares, *journey);
+        let fare = fare(schedule, *journey);
         let is_covered = match cap {
             Some(cap) => {
                 (cap.lo..=cap.hi).contains(&fare.lo)

@@ -216,35 +216,30 @@ fn commit_and_ask<N: Named + Send + Sync, R: Threads + Wait + Sync + Abort>(
 }
 
 /// What is seen of card 1 after these touches, of which a book can hold a million.
-fn view_after(alloc: Global, fares: &Fares, touches: &[Touch]) -> Option<CardView> {
+fn view_after(alloc: Global, touches: &[Touch]) -> Option<CardView> {
     if touches.len() > 1_000_000 {
         return None;
     }
-    let book = Book::replay(alloc, CARDS, fares, touches).ok()?;
+    let schedule = schedule(alloc, Given::Example)?;
+    let book = Book::replay(alloc, CARDS, schedule, touches).ok()?;
     Some(book.view(1))
 }
 
 /// Each answer is the view of card 1 after as many touches of the history as it was of.
-fn compare(rt: &impl Abort, alloc: Global, fares: &Fares, touches: &[Touch], answers: &[Enquiry]) {
+fn compare(rt: &impl Abort, alloc: Global, touches: &[Touch], answers: &[Enquiry]) {
     assert!(rt; !answers.is_empty());
     for answer in answers {
         let front = answer.front as usize;
         assert!(rt; front <= touches.len());
-        let view = view_after(alloc, fares, &touches[..front]);
+        let view = view_after(alloc, &touches[..front]);
         assert_eq!(rt; Some(answer.view), view, "front {front}");
     }
 }
 
 /// What each desk heard is so.
-fn compare_all(
-    rt: &impl Abort,
-    alloc: Global,
-    fares: &Fares,
-    touches: &[Touch],
-    heard: &[Vec<Enquiry>],
-) {
+fn compare_all(rt: &impl Abort, alloc: Global, touches: &[Touch], heard: &[Vec<Enquiry>]) {
     for answers in heard {
-        compare(rt, alloc, fares, touches, answers);
+        compare(rt, alloc, touches, answers);
     }
 }
 
@@ -257,6 +252,5 @@ fn desks_answer_from_beginnings_of_the_history(rt: HostRuntime) {
         .expect(&rt, "the disk wasn't opened");
     let (touches, heard) = commit_and_ask::<Brand, HostRuntime>(&rt, alloc, opening);
     assert_eq!(rt; touches.len(), 41);
-    let fares = table(alloc).expect(&rt, "the table wasn't read");
-    compare_all(&rt, alloc, &fares, &touches, &heard);
+    compare_all(&rt, alloc, &touches, &heard);
 }

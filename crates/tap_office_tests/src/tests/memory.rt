@@ -1,6 +1,10 @@
 //! Calls that are refused memory and made again. `scripts/refuse-memory` runs these with each of
 //! their allocations refused in turn: every other answer is that of ample memory.
-use super::steps::{Outcome, full_steps, outcome_of, try_work, worked};
+ghost use Rattle.std.specs.Prelude.{◌≡◌, []};
+ghost use Rattle.fare_schedule.specs.Schedule.{revisions_of};
+
+use super::revisions::{BAD_DAY, REVISE, REVISED_REPLY, TRAVELLED, missing_touches, new_prices};
+use super::steps::{Outcome, full_steps, try_work, work_with, worked};
 use super::*;
 use std::sync::Wait;
 use tap_disk::Disk;
@@ -9,14 +13,13 @@ use tap_journal::JournalFault;
 /// How often an office is opened again for want of memory or of a desk.
 const TRIES: u32 = 8;
 
-/// The table, read again where memory was refused.
-fn table_again(rt: &impl Abort, alloc: Global) -> Fares {
-    match Fares::read(alloc, EXAMPLE_TABLE) {
-        Ok(fares) => fares,
-        Err(fault) => {
-            assert_eq!(rt; fault, TableFault::Memory);
-            table(alloc).expect(rt, "the table wasn't read")
-        }
+/// The schedule, made again where memory was refused.
+fn schedule_again(rt: &impl Abort, alloc: Global, given: Given) -> Schedule
+    ensures { revisions_of result ≡ [] }
+{
+    match schedule(alloc, given) {
+        Some(schedule) => schedule,
+        None => schedule(alloc, given).expect(rt, "the tables weren't read"),
     }
 }
 
@@ -28,31 +31,32 @@ fn disk_again(rt: &impl Abort, alloc: Global, capacity: u32, touches: &[Touch]) 
     }
 }
 
-/// What comes of a disk that is opened with so many cards for two seats. Where memory was refused,
-/// of which the disk says that it failed, it is opened again.
-fn read_again(rt: &impl Abort, alloc: Global, disk: MemoryDisk, cards: u32) -> Read {
-    match Opening::read(alloc, disk, table_again(rt, alloc), cards, 2) {
+/// What comes of a disk that is opened by these tables with so many cards for two seats. Where
+/// memory was refused, of which the disk says that it failed, it is opened again.
+fn read_again(rt: &impl Abort, alloc: Global, disk: MemoryDisk, given: Given, cards: u32) -> Read {
+    match Opening::read(alloc, disk, schedule_again(rt, alloc, given), cards, 2) {
         Err(
             OpenFault {
                 disk,
                 cause: JournalFault::Memory | JournalFault::Device,
             },
-        ) => Opening::read(alloc, disk, table_again(rt, alloc), cards, 2),
+        ) => Opening::read(alloc, disk, schedule_again(rt, alloc, given), cards, 2),
         read => read,
     }
 }
 
-/// Works through the steps on an office of the disk, which is opened again where memory or a desk
-/// was refused. Gives the disk.
+/// Works through the steps on an office of the disk by these tables, which is opened again where
+/// memory or a desk was refused. Gives the disk.
 fn work_again<R: Wait + Abort>(
     rt: &R,
     alloc: Global,
     disk: MemoryDisk,
+    given: Given,
     steps: &[Step],
 ) -> Option<(Outcome, MemoryDisk)> {
     let mut disk = disk;
     for _ in 0..TRIES {
-        let opening = read_again(rt, alloc, disk, CARDS)
+        let opening = read_again(rt, alloc, disk, given, CARDS)
             .ok()
             .expect(rt, "the disk wasn't opened");
         match try_work(rt, alloc, opening, steps, 0) {
@@ -69,10 +73,10 @@ fn work_again<R: Wait + Abort>(
 
 /// A disk that failed at a touch for want of memory halted its office, which ended so. The disk has
 /// what was answered, with that touch or without.
-fn assert_halted<R: Wait + Abort>(rt: &R, alloc: Global, disk: MemoryDisk, end: End) {
+fn assert_halted<R: Wait + Abort>(rt: &R, alloc: Global, disk: MemoryDisk, given: Given, end: End) {
     assert!(rt; end.halted);
     assert_eq!(rt; disk.failures(), 1);
-    let found = outcome_of(rt, alloc, disk, &[]).opened;
+    let found = work_with(rt, alloc, disk, given, &[]).0.opened;
     assert!(rt; found == end.entries || found == end.entries.saturating_add(1));
 }
 
@@ -82,13 +86,17 @@ fn assert_worked<R: Wait + Abort>(
     rt: &R,
     alloc: Global,
     disk: MemoryDisk,
+    given: Given,
     steps: &[Step],
     want: Outcome,
 ) {
-    let (outcome, disk) = work_again(rt, alloc, disk, steps).expect(rt, "no office was made");
+    let (outcome, disk) = work_again(rt, alloc, disk, given, steps).expect(
+        rt,
+        "no office was made",
+    );
     if let Some((row, answer)) = outcome.stray {
         assert_eq!(rt; answer, Answer::Fault(SubmitFault::Halted), "step {row}");
-        assert_halted(rt, alloc, disk, outcome.end);
+        assert_halted(rt, alloc, disk, given, outcome.end);
     } else {
         assert_eq!(rt; outcome, want);
     }
@@ -98,7 +106,14 @@ fn assert_worked<R: Wait + Abort>(
 fn a_full_journal_answers_the_same_where_memory_was_refused(rt: HostRuntime) {
     let alloc = rt.alloc();
     let disk = disk_again(&rt, alloc, 2, &[]);
-    assert_worked(&rt, alloc, disk, &full_steps(), worked(0, 2000, 2));
+    assert_worked(
+        &rt,
+        alloc,
+        disk,
+        Given::Example,
+        &full_steps(),
+        worked(0, 2000, 2),
+    );
 }
 
 /// A gate's top-up by 100 pence from the seat of this place, which is answered by this place in the
@@ -130,7 +145,7 @@ fn two_seats_are_answered_the_same_where_memory_was_refused(rt: HostRuntime) {
         topped_up(0, 1, 3, 5),
         topped_up(1, 2, 3, 6),
     ];
-    assert_worked(&rt, alloc, disk, &steps, worked(1, 600, 7));
+    assert_worked(&rt, alloc, disk, Given::Example, &steps, worked(1, 600, 7));
 }
 
 /// A disk that holds 64 zero bytes.
@@ -158,7 +173,7 @@ fn assert_refused(
     cards: u32,
     want: JournalFault,
 ) {
-    let fault = read_again(rt, alloc, disk, cards)
+    let fault = read_again(rt, alloc, disk, Given::Example, cards)
         .err()
         .expect(rt, "the disk was opened");
     assert_eq!(rt; fault.cause, want);
@@ -184,4 +199,34 @@ fn an_opening_has_the_same_cause_where_memory_was_refused(rt: HostRuntime) {
             .expect(&rt, "no disk was made");
         assert_refused(&rt, alloc, disk, cards, want);
     }
+}
+
+#[test]
+fn revisions_are_answered_the_same_where_memory_was_refused(rt: HostRuntime) {
+    let alloc = rt.alloc();
+    let disk = disk_again(&rt, alloc, 10, &[ISSUE, TOP_UP, ENTER, LEAVE]);
+    let steps = [
+        from_first(TRAVELLED, Answer::First(4, BAD_DAY)),
+        from_first(REVISE, Answer::First(5, REVISED_REPLY)),
+    ];
+    assert_worked(&rt, alloc, disk, Given::Revised, &steps, worked(4, 1650, 6));
+    let disk = disk_again(&rt, alloc, 10, &missing_touches());
+    assert_worked(
+        &rt,
+        alloc,
+        disk,
+        Given::Revised,
+        &new_prices(),
+        worked(6, 980, 10),
+    );
+}
+
+#[test]
+fn a_missing_table_is_told_the_same_where_memory_was_refused(rt: HostRuntime) {
+    let alloc = rt.alloc();
+    let disk = disk_again(&rt, alloc, 5, &[ISSUE]);
+    let steps = [from_first(REVISE, Answer::Fault(SubmitFault::UnknownTable))];
+    assert_worked(&rt, alloc, disk, Given::Example, &steps, worked(1, 0, 1));
+    let disk = disk_again(&rt, alloc, 10, &missing_touches());
+    assert_refused(&rt, alloc, disk, CARDS, JournalFault::MissingTable(4));
 }

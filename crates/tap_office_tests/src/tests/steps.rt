@@ -170,15 +170,16 @@ pub fn try_work<R: Wait + Abort>(
     work_through::<Brand, R>(rt, alloc, opening, steps, kept_back)
 }
 
-/// The same on a disk, where there is memory.
+/// The same on a disk that is opened with these tables, where there is memory.
 fn work_but<R: Wait + Abort>(
     rt: &R,
     alloc: Global,
     disk: MemoryDisk,
+    given: Given,
     steps: &[Step],
     kept_back: usize,
 ) -> (Outcome, MemoryDisk) {
-    let opening = read(rt, alloc, disk, CARDS, 2)
+    let opening = read_with(rt, alloc, disk, given, CARDS, 2)
         .ok()
         .expect(rt, "the disk wasn't opened");
     try_work(rt, alloc, opening, steps, kept_back)
@@ -187,13 +188,24 @@ fn work_but<R: Wait + Abort>(
 }
 
 /// The same with all seats at the closing.
+pub fn work_with<R: Wait + Abort>(
+    rt: &R,
+    alloc: Global,
+    disk: MemoryDisk,
+    given: Given,
+    steps: &[Step],
+) -> (Outcome, MemoryDisk) {
+    work_but(rt, alloc, disk, given, steps, 0)
+}
+
+/// The same with the example table alone.
 pub fn work<R: Wait + Abort>(
     rt: &R,
     alloc: Global,
     disk: MemoryDisk,
     steps: &[Step],
 ) -> (Outcome, MemoryDisk) {
-    work_but(rt, alloc, disk, steps, 0)
+    work_with(rt, alloc, disk, Given::Example, steps)
 }
 
 /// The outcome alone.
@@ -272,7 +284,7 @@ fn a_seat_that_is_missing_is_told(rt: HostRuntime) {
     let alloc = rt.alloc();
     let disk = disk_of(&rt, alloc, 5, &[]);
     let steps = [from_first(ISSUE, Answer::First(0, REPLIES[0]))];
-    let (outcome, disk) = work_but(&rt, alloc, disk, &steps, 1);
+    let (outcome, disk) = work_but(&rt, alloc, disk, Given::Example, &steps, 1);
     let end = End {
         cause: Some(CloseCause::SeatMissing),
         halted: false,
@@ -307,6 +319,7 @@ fn a_fault_says_its_number_and_cause(rt: HostRuntime) {
         (SubmitFault::Halted, 3, "the office is halted"),
         (SubmitFault::Memory, 4, "out of memory"),
         (SubmitFault::Full, 5, "the journal is full"),
+        (SubmitFault::UnknownTable, 6, "the table is not supplied"),
     ];
     for (fault, code, text) in rows {
         assert_eq!(rt; fault.code(), code);

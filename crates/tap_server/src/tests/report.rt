@@ -1,7 +1,7 @@
-//! The lines that `serve` writes, worked out by hand.
+//! The lines that `serve` and `migrate` write, worked out by hand.
 
 use super::fakes::Taker;
-use crate::report::{write_opened, write_report};
+use crate::report::{write_migrated, write_opened, write_report};
 use crate::tally::Tally;
 use std::alloc::Global;
 use std::test::Fail;
@@ -31,6 +31,9 @@ fn a_report_tells_the_opening_each_line_and_the_end(rt: HostRuntime) -> Result<(
     let mut written = Vec::new(rt.alloc());
     write_opened(&mut written, 0)?;
     assert_eq!(rt; written.as_slice(), "opened 0\n".as_bytes());
+    let mut written = Vec::new(rt.alloc());
+    write_migrated(&mut written, 1_000_000)?;
+    assert_eq!(rt; written.as_slice(), "migrated 1000000\n".as_bytes());
     let mut written = Vec::new(rt.alloc());
     write_report(&mut written, &TALLIES, false, 7)?;
     assert_eq!(rt; written.as_slice(), REPORT.as_bytes());

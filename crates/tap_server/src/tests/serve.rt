@@ -174,6 +174,40 @@ fn a_full_history_goes_on_to_answer(rt: HostRuntime) -> Result<(), Fail> {
 }
 
 #[test]
+fn a_revision_is_answered_and_one_to_an_unknown_table_is_no_entry(
+    rt: HostRuntime,
+) -> Result<(), Fail> {
+    // under one number: what was no entry is judged anew
+    let revised = whole(
+        0,
+        &[
+            Frame::Issue,
+            Frame::TopUp,
+            Frame::ReviseUnknown,
+            Frame::Revise,
+            Frame::Revise,
+        ],
+        &[
+            Frame::Issued,
+            Frame::ToppedUp,
+            Frame::UnknownTable,
+            Frame::Revised,
+            Frame::Revised,
+        ],
+    );
+    let (tallies, entries) = served(&rt, 1, 3, &[revised])?;
+    let tally = Tally {
+        connections: 1,
+        requests: 5,
+        answers: 5,
+        ends: [1, 0, 0, 0, 0, 0, 0],
+    };
+    assert_eq!(rt; tallies.as_slice(), [tally].as_slice());
+    assert_eq!(rt; entries, 3);
+    Ok(())
+}
+
+#[test]
 fn two_lines_are_served_at_once(rt: HostRuntime) -> Result<(), Fail> {
     // each gate tops its card up behind the first answers of both
     let scripts = [

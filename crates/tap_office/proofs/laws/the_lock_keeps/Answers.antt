@@ -1,5 +1,6 @@
 use Rattle.std.proofs.Common.{◌≡◌, subst}
-use Rattle.reply_book.specs.Legal.{history_of, IsLegal}
+use Rattle.reply_book.specs.Legal.{history_of}
+use Rattle.tap_office.specs.Given.{IsLegalFor}
 use Rattle.tap_office.specs.Keeper.{KeeperState, IsHaltedByDisk, IsLeft}
 use Rattle.tap_office.proofs.KeeperLemmas.{legal_of, is_left}
 use Rattle.tap_office.proofs.laws.the_lock_keeps.Goals as goal
@@ -8,8 +9,8 @@ pub returns-clause-legal : goal.returns-clause-legal
 returns-clause-legal g c =
     let o = g.N.Named.opened in
     let kept = c.keeper.invariant.0 in
-    subst (λ (k : KeeperState g.row.D.Denot). IsLegal o.scheme o.header.cards (history_of k.history)) c.keeper.view_is
-    (legal_of o c.keeper.inside.book kept.legal kept.cards)
+    subst (λ (k : KeeperState g.row.D.Denot). IsLegalFor o (history_of k.history)) c.keeper.view_is
+    (legal_of o c.keeper.inside.book kept.legal kept.tables kept.cards)
 
 pub returns-clause-published : goal.returns-clause-published
 returns-clause-published g c =
@@ -21,7 +22,7 @@ returns-clause-left g c =
     let inside = c.keeper.inside in
     subst (λ (k : KeeperState g.row.D.Denot). IsLeft g.D.Disk.honest g.D.Disk.content g.D.Disk.outcome o.header
     k.history k.halted k.disk) c.keeper.view_is
-    (is_left o inside.fares inside.book inside.halted inside.journal c.keeper.invariant.0
+    (is_left o inside.book inside.halted inside.journal c.keeper.invariant.0
     g.met.D.Disk.content_is_outcome)
 
 pub returns-clause-failed : goal.returns-clause-failed

@@ -11,4 +11,4 @@ ghosts-serve_opening-N-Ledger g a = record { name = a.opening.receipts; parts = 
 
 abbrev pub ghosts-serve_opening-N-StoryName : goal.ghosts-serve_opening-N-StoryName
 ghosts-serve_opening-N-StoryName g a =
-    record { story = a.opening.story; table = Some (a.opening.fares, a.opening.header.cards) }
+    record { story = a.opening.story; table = Some (a.opening.tables, a.opening.header.cards) }

@@ -1,13 +1,12 @@
 use Rattle.std.proofs.Common.{rules}
-use Rattle.oyster_account.specs.Scheme.{scheme_of}
 use Rattle.tap_desk_tests.proofs.tests.Station.commit.Goals as goal
 
 -- making room leaves the book standing
 pub stage-requires-clause-stands : goal.stage-requires-clause-stands
-stage-requires-clause-stands g c = c.ready.ensures.stands (scheme_of c.self.inside.fares) c.self.invariant.3
+stage-requires-clause-stands g c = c.ready.ensures.stands c.self.invariant.3
 
 pub add-requires-clause-stands : goal.add-requires-clause-stands
-add-requires-clause-stands g c = c.ready.ensures.stands (scheme_of c.self.inside.fares) c.self.invariant.3
+add-requires-clause-stands g c = c.ready.ensures.stands c.self.invariant.3
 
 -- and leaves what is published
 pub invariant_of-self : goal.invariant_of-self
@@ -15,8 +14,7 @@ invariant_of-self g c = (
   search rules,
   search rules,
   search rules,
-  c.ready.ensures.stands
-      (scheme_of c.self.inside.fares) c.self.invariant.3,
+  c.ready.ensures.stands c.self.invariant.3,
 )
 
 pub invariant_of-self-in_default-stage : goal.invariant_of-self-in_default-stage
@@ -24,6 +22,5 @@ invariant_of-self-in_default-stage g c = (
   search rules,
   search rules,
   search rules,
-  c.ready.ensures.stands
-      (scheme_of c.self.inside.fares) c.self.invariant.3,
+  c.ready.ensures.stands c.self.invariant.3,
 )

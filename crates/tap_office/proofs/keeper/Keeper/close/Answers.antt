@@ -34,19 +34,19 @@ returns-clause-settles g c =
 -- what the lock kept
 pub returns-clause-rest : goal.returns-clause-rest
 returns-clause-rest g c =
-    is_end g.N.Named.opened c.self.inside.fares c.self.inside.book c.self.inside.halted c.self.inside.journal
+    is_end g.N.Named.opened c.self.inside.book c.self.inside.halted c.self.inside.journal
     c.self.invariant.0 g.met.D.Disk.content_is_outcome c.close-disk.result c.close-disk.ensures
     c.self.invariant.2.begins
 
 pub returns-then-len-made-clause-rest : goal.returns-then-len-made-clause-rest
 returns-then-len-made-clause-rest g c =
-    is_end g.N.Named.opened c.self.inside.fares c.self.inside.book c.self.inside.halted c.self.inside.journal
+    is_end g.N.Named.opened c.self.inside.book c.self.inside.halted c.self.inside.journal
     c.self.invariant.0 g.met.D.Disk.content_is_outcome c.close-disk.result c.close-disk.ensures
     c.self.invariant.2.begins
 
 pub returns-then-not-all_stand-clause-rest : goal.returns-then-not-all_stand-clause-rest
 returns-then-not-all_stand-clause-rest g c =
-    is_end g.N.Named.opened c.self.inside.fares c.self.inside.book c.self.inside.halted c.self.inside.journal
+    is_end g.N.Named.opened c.self.inside.book c.self.inside.halted c.self.inside.journal
     c.self.invariant.0 g.met.D.Disk.content_is_outcome c.close-disk.result c.close-disk.ensures
     c.self.invariant.2.begins
 

@@ -10,4 +10,4 @@ ghosts-commit_and_ask-N-Ledger g a = record { name = a.opening.receipts; parts =
 
 abbrev pub ghosts-commit_and_ask-N-StoryName : goal.ghosts-commit_and_ask-N-StoryName
 ghosts-commit_and_ask-N-StoryName g a =
-    record { story = a.opening.story; table = Some (a.opening.fares, a.opening.header.cards) }
+    record { story = a.opening.story; table = Some (a.opening.tables, a.opening.header.cards) }

@@ -10,4 +10,4 @@ ghosts-work_through-N-Ledger g a = record { name = a.opening.receipts; parts = a
 
 abbrev pub ghosts-work_through-N-StoryName : goal.ghosts-work_through-N-StoryName
 ghosts-work_through-N-StoryName g a =
-    record { story = a.opening.story; table = Some (a.opening.fares, a.opening.header.cards) }
+    record { story = a.opening.story; table = Some (a.opening.tables, a.opening.header.cards) }

@@ -10,4 +10,4 @@ ghosts-two_gates-N-Ledger g a = record { name = a.opening.receipts; parts = a.op
 
 abbrev pub ghosts-two_gates-N-StoryName : goal.ghosts-two_gates-N-StoryName
 ghosts-two_gates-N-StoryName g a =
-    record { story = a.opening.story; table = Some (a.opening.fares, a.opening.header.cards) }
+    record { story = a.opening.story; table = Some (a.opening.tables, a.opening.header.cards) }

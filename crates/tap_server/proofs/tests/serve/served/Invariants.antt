@@ -10,4 +10,4 @@ ghosts-serve_lines-N-Ledger g a = record { name = a.opening.receipts; parts = a.
 
 abbrev pub ghosts-serve_lines-N-StoryName : goal.ghosts-serve_lines-N-StoryName
 ghosts-serve_lines-N-StoryName g a =
-    record { story = a.opening.story; table = Some (a.opening.fares, a.opening.header.cards) }
+    record { story = a.opening.story; table = Some (a.opening.tables, a.opening.header.cards) }

@@ -10,4 +10,4 @@ ghosts-sessions-N-Ledger g a = record { name = a.opening.receipts; parts = a.ope
 
 abbrev pub ghosts-sessions-N-StoryName : goal.ghosts-sessions-N-StoryName
 ghosts-sessions-N-StoryName g a =
-    record { story = a.opening.story; table = Some (a.opening.fares, a.opening.header.cards) }
+    record { story = a.opening.story; table = Some (a.opening.tables, a.opening.header.cards) }
