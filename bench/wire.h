@@ -11,7 +11,7 @@
 enum {
     ENTER = 0x01, LEAVE = 0x02, TOP_UP = 0x03, ISSUE = 0x04, ENQUIRY = 0x05, REPLY = 0x81, HOLDING = 0x85,
 
-    /* Whole frames, with the two bytes of their length. The longest request is a top-up. */
+    /* Whole frames, with the two bytes of their length. The longest request that load sends is a top-up. */
     LONGEST_REQUEST = 21, REPLY_SIZE = 22, HOLDING_SIZE = 16,
 };
 

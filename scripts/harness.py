@@ -13,6 +13,8 @@ TOP = pathlib.Path(__file__).resolve().parent.parent
 CRATES = TOP / "crates"
 PROGRAM = CRATES / "tap_server" / "out" / "tap_server"
 EXAMPLE = TOP / "docs" / "example.toml"
+# The example table with two other prices, for revisions.
+REVISED = TOP / "docs" / "vectors-revised.toml"
 
 # How many seconds a run of the program may take.
 TIME = 60
@@ -60,10 +62,10 @@ def lines(texts):
     return "".join(text + "\n" for text in texts).encode()
 
 
-def vectors():
-    """The frames of the first server of docs/vectors.txt: pairs of a request and its answer, by the section that they
-    stand in."""
-    station = wire.vectors()[0]
+def vectors(server="example"):
+    """The frames of a server of docs/vectors.txt: pairs of a request and its answer, by the section that they stand
+    in."""
+    station = next(station for station in wire.vectors() if station.name == server)
     sections = {name: [] for name in station.sections}
     for vector in station.vectors:
         sections[vector.section].append((vector.request.hex(), vector.answer.hex()))

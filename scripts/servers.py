@@ -34,13 +34,13 @@ class Bench:
             source = TOP / "bench" / f"{name}.c"
             subprocess.run([compiler, "-O2", "-pthread", "-o", self.folder / name, source], check=True)
 
-    def bovtrila(self, connections, cards=CARDS, capacity=CAPACITY, journal=None, before=()):
-        """Starts Bovtrila's server for so many connections, on a new journal where none is given."""
+    def bovtrila(self, connections, cards=CARDS, capacity=CAPACITY, journal=None, before=(), revised=()):
+        """Starts Bovtrila's server for so many connections, on a new journal where none is given, with further tables."""
         if journal is None:
             journal = self.folder / "journal"
             journal.unlink(missing_ok=True)
         words = ["serve", "--table", EXAMPLE, "--journal", journal, "--cards", cards, "--capacity", capacity,
-                 "--listen", "127.0.0.1:0", "--lines", connections, "--connections", 2]
+                 "--listen", "127.0.0.1:0", "--lines", connections, "--connections", 2, *revised]
         return Server([*self.before, *before, PROGRAM, *words])
 
     def bare(self, connections, before=()):
@@ -86,11 +86,12 @@ class Server:
         return int(pathlib.Path(f"/proc/{self.process.pid}/statm").read_text().split()[1]) * os.sysconf("SC_PAGE_SIZE")
 
     def let_go(self):
-        """Uses the spare connections up, and gives what the server printed."""
+        """Uses the spare connections up, each by a byte of a request, and gives what the server printed."""
         limit = time.monotonic() + PATIENCE
         while self.process.poll() is None and time.monotonic() < limit:
             try:
-                socket.create_connection(self.address, PATIENCE).close()
+                with socket.create_connection(self.address, PATIENCE) as gate:
+                    gate.sendall(b"\0")
             except OSError:
                 # It listens no more.
                 pass

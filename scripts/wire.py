@@ -26,6 +26,7 @@ VERDICTS = {
     6: "out too late",
     7: "topped up",
     8: "issued",
+    9: "revised",
     20: "refused: no such card",
     21: "refused: issued already",
     22: "refused: no such station",
@@ -33,6 +34,7 @@ VERDICTS = {
     24: "refused: the balance is too low",
     25: "refused: no such amount",
     26: "refused: above the balance limit",
+    27: "refused: a day with travel, or not above the last revision's",
 }
 # A touch in or out opens the barrier by these verdicts, and by those below 20 that have no meaning yet.
 OPENING = (1, 2, 3, 4, 5, 6)
@@ -43,6 +45,7 @@ FAULTS = {
     3: "halted: the station's disk has failed",
     4: "no memory, send it again",
     5: "full: the journal takes no new touch",
+    6: "unknown table: the server wasn't started with it, and recorded nothing",
 }
 
 
@@ -180,6 +183,7 @@ class Station:
 
     def __init__(self, folder, line, words):
         self.name, self.vectors, self.bad, self.waits, self.sections = words[0], [], [], [], []
+        self.revised = []
         options = dict(word.partition("=")[::2] for word in words[1:])
         numbers = options.get("cards", ""), options.get("capacity", "")
         if set(options) != {"table", "cards", "capacity"} or not all(number.isdecimal() for number in numbers):
@@ -187,12 +191,25 @@ class Station:
         self.table = folder / options["table"]
         self.cards, self.capacity = map(int, numbers)
 
+    def words(self):
+        """The words with which this server is started, the tables of its revisions last."""
+        return ["--table", self.table, "--cards", self.cards, "--capacity", self.capacity, *self.revised]
+
     def model(self):
         """The plain model of this server."""
+        supplied = [table_of(path) for path in self.revised]
         try:
-            return model.Station(model.Table(self.table.read_text()), self.cards, self.capacity)
-        except (OSError, ValueError, KeyError) as error:
-            raise Wrong(f"{self.table}: {error}; lay a valid fare table there, or name another") from None
+            return model.Station(table_of(self.table), self.cards, self.capacity, supplied)
+        except ValueError as error:
+            raise Wrong(f"{self.name}: {error}") from None
+
+
+def table_of(path):
+    """The fare table in a file."""
+    try:
+        return model.Table(pathlib.Path(path).read_bytes().decode())
+    except (OSError, ValueError, KeyError) as error:
+        raise Wrong(f"{path}: {error}; lay a valid fare table there, or name another") from None
 
 
 def hexadecimal(text, line):
@@ -255,12 +272,14 @@ class Reader:
         """Takes a line that begins with #!."""
         if words[:1] == ["server"] and len(words) > 1:
             self.stations.append(Station(self.folder, line, words[1:]))
+        elif words[:1] == ["revision"] and len(words) == 2 and self.stations:
+            self.stations[-1].revised.append(self.folder / words[1])
         elif words[:1] == ["bad"] and self.stations:
             self.stations[-1].bad += [one for word in words[1:] for one in beginnings(word, line)]
         elif words[:1] == ["waits"] and self.stations:
             self.stations[-1].waits += [one for word in words[1:] for one in beginnings(word, line)]
         else:
-            raise Wrong(f"line {line}: '#! {' '.join(words)[:40]}' is neither server, bad nor waits")
+            raise Wrong(f"line {line}: '#! {' '.join(words)[:40]}' is neither server, revision, bad nor waits")
 
 
 def vectors(path=VECTORS):
