@@ -77,7 +77,7 @@ impl Schedule {
         ensures { result ≡ Ok (stamp_by self.now moment) }
     {
         let by_first = self.first.stamp(moment)?;
-        self.first.stamp_with(self.on(by_first.day), moment)
+        Ok(self.on(by_first.day).restamp(by_first))
     }
 
     /// The day of the last revision.

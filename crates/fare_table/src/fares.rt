@@ -39,7 +39,8 @@ impl Fares {
     ghost use Rattle.fare_table.specs.Stations.{has_stations_of};
     ghost use Rattle.fare_table.specs.Table.{IsTableOf};
     ghost use Rattle.fare_table.specs.Fare.{station_at, zones_at, fare_of, maximum_of, leg_minutes_of, interchange_of};
-    ghost use Rattle.fare_table.specs.Fare.{stamp_of, stamp_with};
+    ghost use Rattle.fare_table.specs.Fare.{stamp_of};
+    ghost use Rattle.money_time.specs.Stamp.{by_holidays};
 
     /// Reads a table's text, as docs/TABLE.md says.
     ///
@@ -220,17 +221,17 @@ impl Fares {
     pub fn stamp(&self, moment: u32) -> Result<Stamp, AllocError>
         ensures { result ≡ Ok (stamp_of (content_of self.now) moment) }
     {
-        self.stamp_with(self, moment)
-    }
-
-    /// The stamp of a moment, by this table's zone and the other's holidays. It never fails: it
-    /// takes no memory.
-    pub fn stamp_with(&self, other: &Fares, moment: u32) -> Result<Stamp, AllocError>
-        ensures { result ≡ Ok (stamp_with (content_of self.now) (content_of other.now) moment) }
-    {
-        match self.clock.stamp(moment, other.holidays.as_slice()) {
+        match self.clock.stamp(moment, self.holidays.as_slice()) {
             Ok(stamp) => Ok(stamp),
             Err(_) => Err(AllocError),
         }
+    }
+
+    /// The stamp of the same moment by this table's holidays, where `stamp` is by another table of
+    /// the same zone.
+    pub fn restamp(&self, stamp: Stamp) -> Stamp
+        ensures { result ≡ by_holidays (content_of self.now).holidays stamp }
+    {
+        stamp.by_holidays(self.holidays.as_slice())
     }
 }

@@ -1,11 +1,7 @@
 //! The stamp of a moment: its fare day, its minute and its window.
 ghost use Rattle.std.specs.Prelude.{◌≡◌, ◌≤◌, ◌<◌, ◌<ℤ◌, ◌≤ℤ◌, pos};
-ghost use Rattle.jiff_core.specs.Date.{epoch_day};
-ghost use Rattle.money_time.specs.Stamp.{fare_day_of, window_of, clock_window};
+ghost use Rattle.money_time.specs.Stamp.{fare_day_of, by_holidays, window_of, clock_window};
 ghost use Rattle.money_time.specs.Stamp.{is_working_day, is_weekday, is_listed};
-
-use crate::date::day_number;
-use jiff::civil::{Date, Weekday};
 
 /// The minute of the civil day with which a fare day starts: 04:30.
 pub const FARE_DAY_START: u16 = 270;
@@ -35,6 +31,20 @@ pub struct Stamp {
     pub window: Window,
 }
 
+impl Stamp {
+    /// The stamp of the same moment by these holidays, whatever it went by before.
+    ///
+    /// `holidays` are in days since 1970-01-01, in any order.
+    pub fn by_holidays(self, holidays: &[i32]) -> Stamp
+        ensures { result ≡ by_holidays holidays.now self }
+    {
+        Stamp {
+            window: window_on(self.day, self.minute, holidays),
+            ..self
+        }
+    }
+}
+
 /// The part of the day that a price goes by. A working day is one from Monday to Friday that is no
 /// listed holiday.
 #[derive(Clone, Copy, Debug, PartialEq, Eq)]
@@ -61,29 +71,29 @@ pub fn fare_day(day: i32, minute: u16) -> i32
     }
 }
 
-/// The window of a minute of a civil date. `holidays` are in days since 1970-01-01.
-pub fn window_at(date: Date, minute: u16, holidays: &[i32]) -> Window
-    ensures { result ≡ window_of holidays.now (epoch_day date) minute }
+/// The window of a minute of a day. Day and holidays are in days since 1970-01-01.
+pub fn window_on(day: i32, minute: u16, holidays: &[i32]) -> Window
+    ensures { result ≡ window_of holidays.now day minute }
 {
-    if is_working(date, holidays) {
-        clock_window(minute)
-    } else {
-        Window::Off
+    match clock_window(minute) {
+        Window::Off => Window::Off,
+        window if is_working(day, holidays) => window,
+        _ => Window::Off,
     }
 }
 
-/// Whether the date is from Monday to Friday and no listed holiday.
-fn is_working(date: Date, holidays: &[i32]) -> bool
-    ensures { result ≡ is_working_day holidays.now (epoch_day date) }
+/// Whether the day is from Monday to Friday and no listed holiday.
+fn is_working(day: i32, holidays: &[i32]) -> bool
+    ensures { result ≡ is_working_day holidays.now day }
 {
-    is_weekday(date) && !is_listed(day_number(date), holidays)
+    is_weekday(day) && !is_listed(day, holidays)
 }
 
-/// Whether the date is from Monday to Friday.
-fn is_weekday(date: Date) -> bool
-    ensures { result ≡ is_weekday (epoch_day date) }
+/// Whether the day is from Monday to Friday. Day 0 was a Thursday.
+fn is_weekday(day: i32) -> bool
+    ensures { result ≡ is_weekday day }
 {
-    !matches!(date.weekday(), Weekday::Saturday | Weekday::Sunday)
+    (i64::from(day) + 3).rem_euclid(7) < 5
 }
 
 /// Whether the day is on the list.

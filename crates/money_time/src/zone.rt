@@ -49,7 +49,7 @@ impl Zone {
             moment,
             day: stamp::fare_day(day, minute),
             minute,
-            window: stamp::window_at(civil.date(), minute, holidays),
+            window: stamp::window_on(day, minute, holidays),
         })
     }
 

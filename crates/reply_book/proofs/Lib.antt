@@ -4,6 +4,7 @@ pub mod LookupLemmas
 pub mod LegalLemmas
 pub mod CardLemmas
 pub mod RevisionLemmas
+pub mod TravelLemmas
 pub mod ViewLemmas
 pub mod OrderLemmas
 pub mod BookLemmas

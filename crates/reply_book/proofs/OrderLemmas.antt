@@ -61,7 +61,7 @@ agree-before tables revisions more day same = record {
 -- ---- a revision
 
 -- what a revision that was judged does to the scheme: nothing, or nothing before a day that no accepted travel has reached
-abbrev IsAhead : Tables → List Judged → Judged → Type 0
+abbrev pub IsAhead : Tables → List Judged → Judged → Type 0
 IsAhead tables history judged =
     (scheme_after tables (history ++ judged ∷ []) ≡ scheme_after tables history)
     ⊎ ((day : ℤ) × AgreeBefore day (scheme_after tables history) (scheme_after tables (history ++ judged ∷ []))

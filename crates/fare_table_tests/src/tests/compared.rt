@@ -85,7 +85,7 @@ fn assert_stamp(rt: &impl Abort, one: &Fares, other: &Fares, expected: Moment) -
         minute,
         window,
     };
-    assert_eq!(rt; one.stamp_with(other, moment)?, stamp);
+    assert_eq!(rt; other.restamp(one.stamp(moment)?), stamp);
     Ok(())
 }
 
