@@ -9,14 +9,14 @@ use Rattle.command_line.specs.declared.arguments.Migrate.{Migrate}
 abbrev pub IsWithin : ℕ → ℕ → Type 0
 IsWithin limit number = (1 ≤ number) × (number ≤ limit)
 
--- a station has 1 to 100,000 cards and a journal of 1 to 1,000,000 touches, and a server 1 to 64 lines
--- of 1 to 1,000,000 connections each; a silent gate is given up, if at all, after 1 to 1,000,000
--- seconds
+-- a station has 1 to 100,000 cards and a journal of 1 to 1,000,000 touches, and a server 1 to 64
+-- lines; a line is done, if at all, after 1 to 1,000,000 connections, and a silent gate is given up,
+-- if at all, after 1 to 1,000,000 seconds
 pub record IsServeAllowed (serve : Serve) : Type 0 where
   pub cards : IsWithin 100_000 serve.cards
   pub capacity : IsWithin 1_000_000 serve.capacity
   pub lines : IsWithin 64 serve.lines
-  pub connections : IsWithin 1_000_000 serve.connections
+  pub connections : IfSome serve.connections (IsWithin 1_000_000)
   pub idle : IfSome serve.idle (IsWithin 1_000_000)
 
 -- so it is of each command

@@ -4,7 +4,6 @@ ghost use Rattle.std.specs.Prelude.{◌≡◌, IfOk, IfSome};
 ghost use Rattle.clap.specs.Values.{kind_of};
 ghost use Rattle.clap.specs.declared.error.kind.ErrorKind.TheVariants.{InvalidValue};
 ghost use Rattle.command_line.specs.Arguments.{IsAllowed, IsServeAllowed, IsWithin};
-ghost use Rattle.command_line.specs.declared.arguments.TheConstants.{CONNECTIONS_LIMIT};
 
 use crate::commands::command;
 use clap::error::ErrorKind;
@@ -60,10 +59,12 @@ pub struct Serve<'a> {
     pub listen: &'a str,
     /// How many gates are served at once.
     pub lines: u32,
-    /// How many connections each line serves, one after the other.
-    pub connections: u32,
+    /// How many connections each line serves, one after the other, where it is ever done.
+    pub connections: Option<u32>,
     /// After how many seconds without a byte a connection is ended, where it is ended so.
     pub idle: Option<u32>,
+    /// Whether it goes on when the journal's disk has failed.
+    pub stay_halted: bool,
 }
 
 /// What the carrying over of a journal is asked for.
@@ -169,11 +170,9 @@ fn serve_asked<'a>(matches: &ArgMatches<'a>, revisions: Vec<&'a str>) -> Option<
     let cards = number_asked(matches, "cards", CARDS_LIMIT)?;
     let capacity = number_asked(matches, "capacity", CAPACITY_LIMIT)?;
     let lines = number_asked(matches, "lines", LINES_LIMIT)?;
-    let connections = connections_asked(matches)?;
-    let idle = match matches.get_str("idle") {
-        Some(_) => Some(number_asked(matches, "idle", IDLE_LIMIT)?),
-        None => None,
-    };
+    let connections = number_given(matches, "connections", CONNECTIONS_LIMIT)?;
+    let idle = number_given(matches, "idle", IDLE_LIMIT)?;
+    let stay_halted = matches.get_flag("stay-halted");
     Some(Arguments::Serve(Serve {
         table,
         revisions,
@@ -184,17 +183,18 @@ fn serve_asked<'a>(matches: &ArgMatches<'a>, revisions: Vec<&'a str>) -> Option<
         lines,
         connections,
         idle,
+        stay_halted,
     }))
 }
 
-/// How many connections each line of a server is to serve: as many as may be where none is named.
-/// `None` where the number that is named isn't one of them.
-fn connections_asked(matches: &ArgMatches<'_>) -> Option<u32>
-    ensures { IfSome result (IsWithin CONNECTIONS_LIMIT) }
+/// The number that an option has which may be left out. `None` where it is given and isn't from 1 to
+/// this limit.
+fn number_given(matches: &ArgMatches<'_>, name: &str, limit: u32) -> Option<Option<u32>>
+    ensures { IfSome result (λ given. IfSome given (IsWithin limit)) }
 {
-    match matches.get_str("connections") {
-        Some(_) => number_asked(matches, "connections", CONNECTIONS_LIMIT),
-        None => Some(CONNECTIONS_LIMIT),
+    match matches.get_str(name) {
+        Some(_) => Some(Some(number_asked(matches, name, limit)?)),
+        None => Some(None),
     }
 }
 

@@ -167,7 +167,11 @@ a journal is opened with its own number",
 /// How many connections a line of a server gives its gates.
 const CONNECTIONS_HELP: &str =
     "How many connections each line serves before it is done, from 1 to 1000000;
-without it 1000000";
+without it no line is ever done";
+
+/// What a server does whose journal's disk has failed.
+const STAY_HALTED_HELP: &str = "Goes on where the journal's disk has failed, for enquiries;
+without it the server then ends, to be started again";
 
 /// The command line of the program.
 pub(crate) fn command<'a>(alloc: Global) -> Result<Command<'a>, Error> {
@@ -215,7 +219,12 @@ fn serve_command<'a>(alloc: Global) -> Result<Command<'a>, Error> {
         "Ends a connection on which nothing was sent, or taken, for so long;
 without it none is ended",
     );
-    with_revisions(alloc, command.arg(connections)?.arg(idle)?)
+    let stays = Arg::new(alloc, "stay-halted")
+        .long("stay-halted")
+        .action(ArgAction::SetTrue)
+        .help(STAY_HALTED_HELP);
+    let command = command.arg(connections)?.arg(idle)?.arg(stays)?;
+    with_revisions(alloc, command)
 }
 
 /// The command `migrate`.

@@ -189,18 +189,18 @@ fn further_tables_are_the_last_words(rt: HostRuntime) -> Result<(), Fail> {
 }
 
 #[test]
-fn a_line_serves_a_million_connections_where_no_number_is_named(
+fn a_line_is_never_done_where_no_number_of_connections_is_named(
     rt: HostRuntime,
 ) -> Result<(), Fail> {
     let alloc = rt.alloc();
     let words = serve_words("64", "2");
     let without = words.get(..14).ok_or("so many words")?;
     let serve = serve_of(alloc, without).ok_or("a server")?;
-    assert_eq!(rt; serve.connections, 1_000_000);
+    assert_eq!(rt; serve.connections, None);
     for (number, connections) in [("1", 1), ("1000000", 1_000_000)] {
         let words = serve_words("64", number);
         let serve = serve_of(alloc, &words).ok_or("a server")?;
-        assert_eq!(rt; serve.connections, connections);
+        assert_eq!(rt; serve.connections, Some(connections));
     }
     for number in ["0", "1000001", "x", "+5"] {
         let words = serve_words("64", number);
@@ -220,12 +220,12 @@ fn a_server_needs_its_tables_its_journal_and_its_numbers(rt: HostRuntime) -> Res
     assert_eq!(rt; serve.journal, "station.journal");
     assert_eq!(rt; serve.listen, "127.0.0.1:0");
     let numbers = (serve.cards, serve.capacity, serve.lines, serve.connections);
-    assert_eq!(rt; numbers, (10, 100, 64, 2));
-    assert_eq!(rt; serve.idle, None);
-    let mut with_idle = words.to_vec(alloc)?;
-    with_idle.extend_from_slice(&["--idle", "600"])?;
-    let serve = serve_of(alloc, with_idle.as_slice()).ok_or("a server")?;
-    assert_eq!(rt; serve.idle, Some(600));
+    assert_eq!(rt; numbers, (10, 100, 64, Some(2)));
+    assert_eq!(rt; (serve.idle, serve.stay_halted), (None, false));
+    let mut with_more = words.to_vec(alloc)?;
+    with_more.extend_from_slice(&["--idle", "600", "--stay-halted"])?;
+    let serve = serve_of(alloc, with_more.as_slice()).ok_or("a server")?;
+    assert_eq!(rt; (serve.idle, serve.stay_halted), (Some(600), true));
     for lines in ["0", "65", "+2", "-1", "x"] {
         let words = serve_words(lines, "2");
         let error = arguments_of(alloc, &words).err().ok_or("a refusal")?;

@@ -3,6 +3,7 @@
 ghost use Rattle.std.specs.Prelude.{◌≡◌};
 ghost use Rattle.tap_server.specs.Clerk.{clerk_at, HasGiven};
 
+use crate::notice::Watch;
 use gate_session::{Answer, Clerk};
 use oyster_account::Touch;
 use std::sync::Wait;
@@ -15,35 +16,44 @@ use tap_office::{Desk, Named, Office, Seat, SubmitFault};
 /// desk learns each receipt before its answer is given, so that no later enquiry here is of less.
 /// An enquiry takes no lock: it is answered from what is published, or by the fault of a halted
 /// office, with no gate and no number, where the desk has nothing to answer from.
+///
+/// What comes of each touch is shown to a watch, which tells nobody but on standard error.
 #[derive(Drop)]
-pub struct OfficeClerk<'a, N: Named, D: Disk> {
+pub struct OfficeClerk<'a, N: Named, D: Disk, T> {
     pub(crate) office: &'a Office<N, D>,
+    pub(crate) watch: &'a T,
     pub(crate) seat: &'a mut Seat<N>,
     pub(crate) desk: &'a mut Desk<N>,
 }
 
-impl<N: Named, D: Disk> Clerk for OfficeClerk<'_, N, D> {
+impl<N: Named, D: Disk, T: Watch> Clerk for OfficeClerk<'_, N, D, T> {
     ghost gives = { λ old request answer new. (new.seat.ghost_name ≡ old.seat.ghost_name)
         × (new.desk.ghost_name ≡ old.desk.ghost_name)
         × HasGiven N.opened (clerk_at old.seat.now old.desk.now)
         (clerk_at new.seat.now new.desk.now) request answer };
 
     fn submit<R: Wait>(&mut self, rt: &R, touch: Touch) -> Answer {
+        let watch = self.watch;
         match self.office.submit(rt, self.seat, touch) {
             Ok(receipt) => {
+                let front = receipt.front;
                 let reply = receipt.reply;
                 self.desk.learn(receipt);
+                watch.answered(front);
                 Answer::Reply {
                     gate: touch.gate,
                     number: touch.number,
                     reply,
                 }
             }
-            Err(fault) => Answer::Fault {
-                code: fault.code(),
-                gate: touch.gate,
-                number: touch.number,
-            },
+            Err(fault) => {
+                watch.refused(fault);
+                Answer::Fault {
+                    code: fault.code(),
+                    gate: touch.gate,
+                    number: touch.number,
+                }
+            }
         }
     }
 

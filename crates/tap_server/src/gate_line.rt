@@ -3,10 +3,14 @@
 ghost use Rattle.std.specs.Prelude.{ℕ, Option, None, is_some, if◌then◌else◌};
 ghost use Rattle.tap_server.specs.Post.{HasGivenMore};
 
+use crate::notice::Lines;
+use libc::net;
 use std::io::{Read, Write};
 use std::net::{TcpListener, TcpStream};
+use std::os::fd::RawFd;
+use std::sync::atomic::{AtomicBool, Ordering};
 use std::time::Clock;
-use tcp_line::TcpLine;
+use tcp_line::{GateReader, GateWriter, TcpLine};
 
 /// A line over which gates connect, one after the other.
 pub(crate) trait GateLine {
@@ -25,12 +29,30 @@ pub(crate) trait GateLine {
             (if is_some result then 1 else 0) };
 }
 
-impl<R: Clock + Eprint> GateLine for TcpLine<'_, R, TcpListener> {
-    type R = TcpStream;
+impl<'a, R: Clock + Eprint + Sync> GateLine for TcpLine<'a, R, TcpListener> {
+    type R = GateReader<'a, R, TcpStream>;
 
-    type W = TcpStream;
+    type W = GateWriter<'a, R, TcpStream>;
 
-    fn connect(&mut self) -> Option<(TcpStream, TcpStream)> {
+    fn connect(&mut self) -> Option<(GateReader<'a, R, TcpStream>, GateWriter<'a, R, TcpStream>)> {
         self.next()
+    }
+}
+
+/// The lines of a listener, which end together.
+#[derive(Drop)]
+pub(crate) struct TcpLines {
+    /// Whether they are ended.
+    pub ended: AtomicBool,
+    /// The listener, for the lines that wait there.
+    pub listener: RawFd,
+}
+
+impl Lines for TcpLines {
+    fn end(&self) {
+        if !self.ended.swap(true, Ordering::Relaxed) {
+            // A listener that can't be shut down leaves each line to its next connection.
+            let _ = net::shutdown(self.listener, net::SHUT_RDWR);
+        }
     }
 }

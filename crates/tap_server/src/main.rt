@@ -10,6 +10,7 @@ mod clerk;
 mod fault;
 mod gate_line;
 mod migrate;
+mod notice;
 mod post;
 mod report;
 mod server;

@@ -12,6 +12,7 @@ ghost use Rattle.tap_server.specs.Tally.{IsBelow};
 
 use crate::clerk::OfficeClerk;
 use crate::gate_line::GateLine;
+use crate::notice::Watch;
 use crate::tally::Tally;
 use gate_session::{Served, serve};
 use std::alloc::Global;
@@ -36,24 +37,25 @@ pub(crate) struct Post<L, N: Named> {
 }
 
 /// Serves all posts, each in a thread of its own where one can be made, and the others one after the
-/// other. Each serves up to so many connections, from 1 to 1000000, by up to so many reads each, from
-/// 1 to 1000000, until its line has no more.
+/// other. Each serves up to so many connections, by up to so many reads each, from 1 to 1000000, until
+/// its line has no more, or one of its counts is above 2^62.
 ///
-/// It waits for gates. No post's counts are above 2^62.
+/// It waits for gates. No post's counts are above 2^62 at first.
 pub(crate) fn serve_all<
     L: GateLine + Send,
     N: Named + Send + Sync,
     D: Disk + Drop + Send,
+    T: Watch + Sync,
     R: Threads + Wait + Sync,
 >(
     rt: &R,
     alloc: Global,
     office: &Office<N, D>,
+    watch: &T,
     posts: &mut [Post<L, N>],
-    connections: u32,
+    connections: u64,
     turns: u32,
 )
-    requires connections { IsWithin 1_000_000 connections }
     requires turns { IsWithin 1_000_000 turns }
     requires below { All (λ post. IsBelow (2 ^ 62) post.tally) posts.old }
     ensures { (place : ℕ) (other : _) → place < length posts.old → HasServed connections
@@ -70,26 +72,25 @@ pub(crate) fn serve_all<
         threads,
         &|_, post: &mut Post<L, N>|
             requires sync { IsSync R.row }
-            requires connections { connections ≤ 1_000_000 }
             requires turns { turns ≤ 1_000_000 }
             requires below { IsBelow (2 ^ 62) post.now.tally }
             ensures { HasServed connections (L.given post.entry.now.line)
                 (L.given post.exit.now.line) post.entry.now.tally post.exit.now.tally
                 post.entry.now.seat post.exit.now.seat post.entry.now.desk post.exit.now.desk }
-        { serve_post(rt, alloc, office, post, connections, turns) },
+        { serve_post(rt, alloc, office, watch, post, connections, turns) },
     );
 }
 
 /// Serves the connections of a post, one after the other.
-fn serve_post<L: GateLine, N: Named, D: Disk, R: Wait>(
+fn serve_post<L: GateLine, N: Named, D: Disk, T: Watch, R: Wait>(
     rt: &R,
     alloc: Global,
     office: &Office<N, D>,
+    watch: &T,
     post: &mut Post<L, N>,
-    connections: u32,
+    connections: u64,
     turns: u32,
 )
-    requires connections { connections ≤ 1_000_000 }
     requires turns { turns ≤ 1_000_000 }
     requires below { IsBelow (2 ^ 62) post.old.tally }
     ensures { HasServed connections (L.given post.old.line) (L.given post.new.line)
@@ -102,6 +103,9 @@ fn serve_post<L: GateLine, N: Named, D: Disk, R: Wait>(
         tally,
     } = post;
     for _ in 0..connections {
+        if !tally.has_room() {
+            return;
+        }
         let Some((mut reader, mut writer)) = line.connect() else {
             return;
         };
@@ -109,6 +113,7 @@ fn serve_post<L: GateLine, N: Named, D: Disk, R: Wait>(
             rt,
             alloc,
             office,
+            watch,
             seat,
             desk,
             &mut reader,
@@ -120,10 +125,11 @@ fn serve_post<L: GateLine, N: Named, D: Disk, R: Wait>(
 }
 
 /// Serves one connection.
-fn serve_connection<I: Read, O: Write, N: Named, D: Disk, R: Wait>(
+fn serve_connection<I: Read, O: Write, N: Named, D: Disk, T: Watch, R: Wait>(
     rt: &R,
     alloc: Global,
     office: &Office<N, D>,
+    watch: &T,
     seat: &mut Seat<N>,
     desk: &mut Desk<N>,
     reader: &mut I,
@@ -135,15 +141,20 @@ fn serve_connection<I: Read, O: Write, N: Named, D: Disk, R: Wait>(
     ensures counts { HasCounted result.end result.requests result.answers }
     ensures few { result.requests ≤ 512 * turns }
 {
-    let mut clerk = OfficeClerk { office, seat, desk };
+    let mut clerk = OfficeClerk {
+        office,
+        watch,
+        seat,
+        desk,
+    };
     serve_clerk(rt, alloc, &mut clerk, reader, writer, turns)
 }
 
 /// Serves one connection by its clerk, who keeps the same seat and desk.
-fn serve_clerk<I: Read, O: Write, N: Named, D: Disk, R: Wait>(
+fn serve_clerk<I: Read, O: Write, N: Named, D: Disk, T: Watch, R: Wait>(
     rt: &R,
     alloc: Global,
-    clerk: &mut OfficeClerk<'_, N, D>,
+    clerk: &mut OfficeClerk<'_, N, D, T>,
     reader: &mut I,
     writer: &mut O,
     turns: u32,

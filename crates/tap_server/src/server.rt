@@ -4,11 +4,12 @@ ghost use Rattle.std.specs.Prelude.{◌≡◌, ◌≤◌, ◌^◌, [], length, m
 ghost use Rattle.std.specs.List.{All};
 ghost use Rattle.tap_office.specs.Name.{IsNameOf};
 ghost use Rattle.tap_office.specs.Opening.{opened_of};
-ghost use Rattle.command_line.specs.Arguments.{IsServeAllowed, IsWithin};
+ghost use Rattle.command_line.specs.Arguments.{IsServeAllowed};
 ghost use Rattle.tap_server.specs.Tally.{IsBelow};
 
 use crate::fault::CommandFault;
-use crate::gate_line::GateLine;
+use crate::gate_line::{GateLine, TcpLines};
+use crate::notice::{Notices, Watch};
 use crate::post::{Post, serve_all};
 use crate::report::{write_opened, write_report};
 use crate::tables::{first_table, schedule_of};
@@ -21,6 +22,7 @@ use std::io;
 use std::io::{BufWriter, Write};
 use std::marker::Brand;
 use std::net::{Net, TcpListener, TcpStream};
+use std::os::fd::AsRawFd;
 use std::process::ExitCode;
 use std::rt::Files;
 use std::sync::Wait;
@@ -99,27 +101,52 @@ fn serve_opening<
     requires allowed { IsServeAllowed asked.now }
 {
     let alloc = rt.alloc();
+    let capacity = opening.capacity();
     let (office, seats, desks) = match opening.office::<N, R>(rt, alloc) {
         Ok(made) => made,
         Err(fault) => return Err(fault.cause.into()),
     };
     let listener = TcpListener::bind(rt, asked.listen).map_err(|_| CommandFault::Listen)?;
     let told = AtomicBool::new(false);
-    let idle = asked
-        .idle
-        .map(|seconds| Duration::from_secs(u64::from(seconds)));
-    let line = TcpLine::new(rt, &listener, &told, idle);
+    let lines = TcpLines {
+        ended: AtomicBool::new(false),
+        listener: listener.as_raw_fd(),
+    };
+    let ends = if asked.stay_halted {
+        None
+    } else {
+        Some(&lines)
+    };
+    let watch = Notices::new(rt, ends, capacity, office.opened());
+    let line = TcpLine::new(rt, &listener, &told, &lines.ended, idle_of(asked));
     let posts = make_posts(alloc, &line, seats, desks)?;
     let listening = listening_line(alloc, &listener)?;
     let mut output = output_of(alloc, io::writer(rt))?;
     serve_office(
         rt,
         office,
+        &watch,
         posts,
         &listening,
         &mut output,
-        asked.connections,
+        connections_of(asked),
     )
+}
+
+/// For how long a gate is waited for, where one is ever given up.
+fn idle_of(asked: &Serve<'_>) -> Option<Duration> {
+    asked
+        .idle
+        .map(|seconds| Duration::from_secs(u64::from(seconds)))
+}
+
+/// How many connections each line serves: as many as come where no number is asked for. No line uses
+/// 2^64 up.
+fn connections_of(asked: &Serve<'_>) -> u64 {
+    match asked.connections {
+        Some(number) => u64::from(number),
+        None => u64::MAX,
+    }
 }
 
 /// The line that tells where gates can connect.
@@ -141,18 +168,19 @@ fn serve_office<
     L: GateLine + Drop + Send,
     N: Named + Send + Sync,
     D: Disk + Drop + Send,
+    T: Watch + Sync,
     W: Write,
     R: AllocGlobal + Threads + Wait + Sync + Eprint,
 >(
     rt: &R,
     office: Office<N, D>,
+    watch: &T,
     posts: Vec<Post<L, N>>,
     listening: &str,
     output: &mut W,
-    connections: u32,
+    connections: u64,
 ) -> Result<ExitCode, CommandFault>
-    requires connections { IsWithin 1_000_000 connections }
-    requires below { All (λ post. IsBelow (2 ^ 62) post.tally) posts.items }
+    requires { All (λ post. IsBelow (2 ^ 62) post.tally) posts.items }
 {
     let alloc = rt.alloc();
     let mut posts = posts;
@@ -160,7 +188,15 @@ fn serve_office<
     let tallies = Vec::with_capacity(alloc, posts.len())?;
     let _ = rt.eprintln(listening);
     write_opened(output, office.opened()).map_err(|_| RunFault::Write)?;
-    serve_all(rt, alloc, &office, posts.as_mut_slice(), connections, TURNS);
+    serve_all(
+        rt,
+        alloc,
+        &office,
+        watch,
+        posts.as_mut_slice(),
+        connections,
+        TURNS,
+    );
     let tallies = tallies_of(posts.as_slice(), tallies);
     match office.close(rt, seats_of(posts, seats)) {
         Ok(closed) => finish(output, tallies.as_slice(), &closed),

@@ -1,11 +1,14 @@
 //! What a line's sessions came to: how many there were, what was asked and answered in them, and how
 //! they ended.
 
-ghost use Rattle.std.specs.Prelude.{◌≡◌, ◌<◌, ◌+◌, ◌^◌, ◌∷◌, [], ℕ};
+ghost use Rattle.std.specs.Prelude.{◌≡◌, ◌<◌, ◌+◌, ◌^◌, ◌∷◌, [], ℕ, IsTrue};
 ghost use Rattle.gate_session.specs.Session.{HasCounted};
 ghost use Rattle.tap_server.specs.Tally.{HasCountedIn, HasGrown, IsBelow, IsEmpty, place_of};
 
 use gate_session::{End, Served};
+
+/// The most that a count may be before a session is counted.
+const MOST: u64 = 1 << 62;
 
 /// The counts of a line's sessions.
 #[derive(Clone, Copy, Debug, PartialEq, Eq)]
@@ -31,6 +34,16 @@ impl Tally {
             answers: 0,
             ends: [0; 7],
         }
+    }
+
+    /// Whether each count is so low that a session can be counted: at most 2^62.
+    pub(crate) fn has_room(&self) -> bool
+        ensures { IsTrue result → IsBelow (2 ^ 62) self.now }
+    {
+        self.connections <= MOST
+            && self.requests <= MOST
+            && self.answers <= MOST
+            && self.ends.iter().all(|count| *count <= MOST)
     }
 
     /// Counts a session. Each count is below 2^63, and so are the session's.

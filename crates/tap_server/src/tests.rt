@@ -1,5 +1,6 @@
 mod check;
 mod fakes;
+mod notices;
 mod report;
 mod scripts;
 mod serve;

@@ -3,9 +3,12 @@
 ghost use Rattle.std.specs.Prelude.{◌≡◌};
 
 use crate::keep_alive::keep_alive;
+use crate::patience::{Patience, tick};
+use crate::reader::GateReader;
 use crate::shortage::Shortage;
-use libc::net;
-use libc::types::pollfd;
+use crate::unhindered::Unhindered;
+use crate::writer::GateWriter;
+use std::io::{ErrorKind, Read, Write};
 use std::net::{OpenListener, OpenStream};
 use std::os::fd::AsRawFd;
 use std::sync::atomic::{AtomicBool, Ordering};
@@ -27,18 +30,23 @@ pub struct TcpLine<'a, R, L> {
     listener: &'a L,
     /// Whether the shortage of now has been told, by whichever line.
     told: &'a AtomicBool,
-    /// How long a gate may be silent, or not take its answers.
+    /// Whether the server's lines are ended.
+    ended: &'a AtomicBool,
+    /// How long a gate may be silent, be at one request, or not take its answers.
     idle: Option<Duration>,
 }
 
 impl<'a, R: Clock + Eprint, L: OpenListener> TcpLine<'a, R, L> {
     /// A line of this listener. A gate that sends nothing, or takes none of its answers, for as long
-    /// as `idle` says is given up; without it none is. `told` is one for all lines of the listener,
-    /// and `false` at first.
+    /// as `idle` says is given up, and so is one whose request isn't whole so long after its first
+    /// byte; without it none is. `told` and `ended` are one each for all lines of the listener, and
+    /// `false` at first. Once `ended` is `true` each line has no more connections: one that waits for
+    /// a gate sees it within a second, and one that waits at the listener once that is shut down.
     pub fn new(
         rt: &'a R,
         listener: &'a L,
         told: &'a AtomicBool,
+        ended: &'a AtomicBool,
         idle: Option<Duration>,
     ) -> TcpLine<'a, R, L>
         ensures { result.idle ≡ idle }
@@ -47,6 +55,7 @@ impl<'a, R: Clock + Eprint, L: OpenListener> TcpLine<'a, R, L> {
             rt,
             listener,
             told,
+            ended,
             idle,
         }
     }
@@ -55,15 +64,15 @@ impl<'a, R: Clock + Eprint, L: OpenListener> TcpLine<'a, R, L> {
     pub fn another(&self) -> TcpLine<'a, R, L>
         ensures { result.idle ≡ self.now.idle }
     {
-        TcpLine::new(self.rt, self.listener, self.told, self.idle)
+        TcpLine::new(self.rt, self.listener, self.told, self.ended, self.idle)
     }
 }
 
-impl<R: Clock + Eprint, L: OpenListener> Iterator for TcpLine<'_, R, L>
+impl<'a, R: Clock + Eprint, L: OpenListener> Iterator for TcpLine<'a, R, L>
 where
-    L::Stream: OpenStream + AsRawFd,
+    L::Stream: Read + Write + OpenStream + AsRawFd,
 {
-    type Item = (L::Stream, L::Stream);
+    type Item = (GateReader<'a, R, L::Stream>, GateWriter<'a, R, L::Stream>);
 
     /// The next connection whose gate has sent a byte: one handle of it to read, and one to write.
     /// Answers are sent at once. It waits for a gate.
@@ -71,29 +80,55 @@ where
     /// A gate that was gone before its first byte is passed over. In a shortage (`Shortage`) the
     /// line waits, from 10 ms on and at most 1 s at a time, and tries again; the first line that
     /// meets it tells it on standard error, once until a connection is there again. `None` comes
-    /// after 2^64 - 1 attempts.
-    fn next(&mut self) -> Option<(L::Stream, L::Stream)> {
+    /// once the server's lines are ended, and after 2^64 - 1 attempts.
+    fn next(&mut self) -> Option<(GateReader<'a, R, L::Stream>, GateWriter<'a, R, L::Stream>)> {
         let mut pause = FIRST_PAUSE;
         for _ in 0..u64::MAX {
             let shortage = match self.attempt() {
-                Ok(Some(connection)) => return Some(connection),
-                Ok(None) => continue,
-                Err(shortage) => shortage,
+                Ok(Some(connection)) => return Some(self.handles(connection)),
+                Ok(None) => None,
+                Err(shortage) => Some(shortage),
             };
-            self.tell(shortage);
-            thread::sleep(self.rt, Duration::from_millis(pause));
-            pause = pause.saturating_mul(2).min(LONGEST_PAUSE);
+            if self.is_ended() {
+                return None;
+            }
+            if let Some(shortage) = shortage {
+                self.tell(shortage);
+                thread::sleep(self.rt, Duration::from_millis(pause));
+                pause = pause.saturating_mul(2).min(LONGEST_PAUSE);
+            }
         }
         None
     }
 }
 
-impl<R: Clock + Eprint, L: OpenListener> TcpLine<'_, R, L>
+impl<'a, R: Clock + Eprint, L: OpenListener> TcpLine<'a, R, L>
 where
-    L::Stream: OpenStream + AsRawFd,
+    L::Stream: Read + Write + OpenStream + AsRawFd,
 {
-    /// One attempt. `None` where the gate was gone before its first byte.
+    /// Whether the server's lines are ended.
+    fn is_ended(&self) -> bool {
+        self.ended.load(Ordering::Relaxed)
+    }
+
+    /// The handles of a connection, to read and to write.
+    fn handles(
+        &self,
+        connection: (L::Stream, L::Stream),
+    ) -> (GateReader<'a, R, L::Stream>, GateWriter<'a, R, L::Stream>) {
+        let (stream, writer) = connection;
+        (
+            GateReader::new(self.rt, stream, self.ended, self.idle),
+            GateWriter::new(self.rt, writer, self.ended, self.idle),
+        )
+    }
+
+    /// One attempt. `None` where the gate was gone before its first byte, and where the server's lines
+    /// are ended.
     fn attempt(&self) -> Result<Option<(L::Stream, L::Stream)>, Shortage> {
+        if self.is_ended() {
+            return Ok(None);
+        }
         let (stream, writer) = match self.accept() {
             Ok(connection) => connection,
             Err(error) => {
@@ -121,27 +156,32 @@ where
     /// before that.
     fn prepare(&self, stream: &L::Stream) -> io::Result<bool> {
         stream.set_nodelay(true)?;
-        stream.set_read_timeout(self.idle)?;
-        stream.set_write_timeout(self.idle)?;
+        stream.set_read_timeout(Some(tick()))?;
+        stream.set_write_timeout(Some(tick()))?;
         keep_alive(stream.as_raw_fd());
-        Ok(stream.peek(&mut [0])? > 0)
+        self.has_first_byte(stream)
+    }
+
+    /// Waits for a connection's first byte, as a reader waits for a request.
+    fn has_first_byte(&self, stream: &L::Stream) -> io::Result<bool> {
+        let mut patience = Patience::new(self.idle);
+        for _ in 0..u64::MAX {
+            match stream.peek(&mut [0]) {
+                Err(error) if error.kind() == ErrorKind::WouldBlock => {
+                    if self.is_ended() || patience.is_over_at_tick(self.rt) {
+                        return Err(error);
+                    }
+                }
+                peeked => return Ok(peeked? > 0),
+            }
+        }
+        Ok(false)
     }
 
     /// Tells a shortage, where that wasn't done yet.
     fn tell(&self, shortage: Shortage) {
-        if !self.told.swap(true, Ordering::Relaxed) && takes_a_line() {
-            let _ = self.rt.eprintln(shortage);
+        if !self.told.swap(true, Ordering::Relaxed) {
+            let _ = Unhindered(self.rt).eprintln(shortage);
         }
     }
-}
-
-/// Standard error takes a line at once. Where nobody reads what was printed to a pipe, a line would
-/// wait here, and its gates with it.
-fn takes_a_line() -> bool {
-    let mut standard_error = [pollfd {
-        fd: 2,
-        events: net::POLLOUT,
-        revents: 0,
-    }];
-    net::poll(&mut standard_error, 0) > 0 && standard_error[0].revents & net::POLLOUT != 0
 }

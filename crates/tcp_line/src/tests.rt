@@ -1,7 +1,10 @@
+mod waits;
+
 use crate::{Shortage, TcpLine};
 use libc::{ECONNABORTED, EINVAL, EMFILE, ENOMEM};
 use std::fmt::Display;
 use std::io;
+use std::io::{Read, Write};
 use std::net::{OpenListener, OpenStream, SocketAddr};
 use std::os::fd::{AsRawFd, RawFd};
 use std::process::Abort;
@@ -57,11 +60,11 @@ impl OpenStream for Connection {
     }
 
     fn set_read_timeout(&self, timeout: Option<Duration>) -> io::Result<()> {
-        given(timeout == Some(Duration::from_secs(7)))
+        given(timeout == Some(Duration::from_secs(1)))
     }
 
     fn set_write_timeout(&self, timeout: Option<Duration>) -> io::Result<()> {
-        given(timeout == Some(Duration::from_secs(7)))
+        given(timeout == Some(Duration::from_secs(1)))
     }
 
     fn peek(&self, buf: &mut [u8]) -> io::Result<usize> {
@@ -85,6 +88,22 @@ fn given(wanted: bool) -> io::Result<()> {
         Ok(())
     } else {
         Err(io::Error::from_raw_os_error(EINVAL))
+    }
+}
+
+impl Read for Connection {
+    fn read(&mut self, _buf: &mut [u8]) -> io::Result<usize> {
+        Ok(0)
+    }
+}
+
+impl Write for Connection {
+    fn write(&mut self, buf: &[u8]) -> io::Result<usize> {
+        Ok(buf.len())
+    }
+
+    fn flush(&mut self) -> io::Result<()> {
+        Ok(())
     }
 }
 
@@ -129,6 +148,14 @@ impl Eprint for Notes {
     }
 }
 
+/// Nothing was waited for, and nothing told.
+fn fresh_notes() -> Notes {
+    Notes {
+        waited: AtomicU64::new(0),
+        told: AtomicU64::new(0),
+    }
+}
+
 /// By these steps, and then by gates that send, the first connection comes after so many attempts, and
 /// the line has waited for so many milliseconds and told so many lines.
 fn assert_comes<R: Abort>(rt: &R, steps: &[Step], attempts: usize, waited: u64, told: u64) {
@@ -136,16 +163,35 @@ fn assert_comes<R: Abort>(rt: &R, steps: &[Step], attempts: usize, waited: u64, 
         steps,
         made: AtomicUsize::new(0),
     };
-    let notes = Notes {
-        waited: AtomicU64::new(0),
-        told: AtomicU64::new(0),
-    };
+    let notes = fresh_notes();
     let flag = AtomicBool::new(false);
-    let mut line = TcpLine::new(&notes, &script, &flag, Some(Duration::from_secs(7)));
+    let ended = AtomicBool::new(false);
+    let idle = Some(Duration::from_secs(7));
+    let mut line = TcpLine::new(&notes, &script, &flag, &ended, idle);
     assert!(rt; line.next().is_some());
     assert_eq!(rt; script.made.load(Ordering::Relaxed), attempts);
     assert_eq!(rt; notes.waited.load(Ordering::Relaxed), waited);
     assert_eq!(rt; notes.told.load(Ordering::Relaxed), told);
+}
+
+/// By these steps no connection is taken up any more, and none is asked for.
+fn assert_ended<R: Abort>(rt: &R, steps: &[Step]) {
+    let script = Script {
+        steps,
+        made: AtomicUsize::new(0),
+    };
+    let notes = fresh_notes();
+    let flag = AtomicBool::new(false);
+    let ended = AtomicBool::new(true);
+    let idle = Some(Duration::from_secs(7));
+    let mut line = TcpLine::new(&notes, &script, &flag, &ended, idle);
+    assert!(rt; line.next().is_none());
+    assert_eq!(rt; script.made.load(Ordering::Relaxed), 0);
+}
+
+#[test]
+fn a_line_has_no_more_connections_once_the_lines_are_ended(rt: HostRuntime) {
+    assert_ended(&rt, &[Step::Sends]);
 }
 
 #[test]

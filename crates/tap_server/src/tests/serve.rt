@@ -6,6 +6,7 @@ ghost use Rattle.tap_office.specs.Name.{IsNameOf};
 ghost use Rattle.tap_office.specs.Opening.{opened_of};
 ghost use Rattle.tap_server.specs.Tally.{IsBelow};
 
+use super::notices::Unwatched;
 use super::scripts::{Frame, Heard, Script, ScriptLine, whole};
 use super::*;
 use crate::gate_line::GateLine;
@@ -58,7 +59,15 @@ fn serve_posts<
     let mut posts = posts;
     let seats = Vec::with_capacity(alloc, posts.len())?;
     let tallies = Vec::with_capacity(alloc, posts.len())?;
-    serve_all(rt, alloc, &office, posts.as_mut_slice(), 10, 1_000_000);
+    serve_all(
+        rt,
+        alloc,
+        &office,
+        &Unwatched,
+        posts.as_mut_slice(),
+        10,
+        1_000_000,
+    );
     let tallies = tallies_of(posts.as_slice(), tallies);
     let closed = office
         .close(rt, seats_of(posts, seats))

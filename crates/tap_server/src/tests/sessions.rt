@@ -4,6 +4,7 @@ ghost use Rattle.tap_office.specs.Name.{IsNameOf};
 ghost use Rattle.tap_office.specs.Opening.{opened_of};
 
 use super::fakes::{Pieces, Taker};
+use super::notices::Unwatched;
 use super::*;
 use crate::clerk::OfficeClerk;
 use gate_session::{End, Served, serve};
@@ -106,8 +107,14 @@ fn session<N: Named, R: Wait>(
         left: trial.room,
         fails: trial.writer_fails,
     };
+    let watch = Unwatched;
     let served = {
-        let mut clerk = OfficeClerk { office, seat, desk };
+        let mut clerk = OfficeClerk {
+            office,
+            watch: &watch,
+            seat,
+            desk,
+        };
         serve(rt, alloc, &mut reader, &mut writer, &mut clerk, 1_000)
     };
     Outcome {

@@ -1,12 +1,12 @@
-use Rattle.std.proofs.Common.{◌+◌, ◌*◌, ◌^◌}
+use Rattle.std.proofs.Common.{◌+◌, ◌^◌}
 use Rattle.tap_server.specs.Post.{HasServed}
 use Rattle.tap_server.specs.Tally.{IsBelow}
 use Rattle.tap_server.proofs.post.serve_post.Given as goal
 
--- so many connections were served, and none has brought more than so many requests
+-- so many connections were served, and the last one has brought no more than so many requests
 abbrev pub invariant-loop : goal.invariant-loop
 invariant-loop g l = record {
   served : HasServed l.counter (g.L.GateLine.given l.fn.post.line) (g.L.GateLine.given l.line) l.fn.post.tally l.tally
       l.fn.post.seat l.seat l.fn.post.desk l.desk;
-  below : IsBelow (2 ^ 62 + 1_000_000_000 * l.counter) l.tally;
+  below : IsBelow (2 ^ 62 + 1_000_000_000) l.tally;
 }
