@@ -1,0 +1,21 @@
+//! What there is to tell of a fare table's text beside its report: where it stops being a TOML
+//! document, the keys that nobody knows, the rows of lists that may be left out, and the first price
+//! above its maximum.
+//!
+//! `look_over` carries it. It stands on `toml`, and knows the keys of docs/TABLE.md.
+#![tactic(auto)]
+
+mod above;
+mod keys;
+mod misread;
+mod survey;
+mod tree;
+mod unknown;
+
+pub use above::Above;
+pub use misread::Misread;
+pub use survey::{Survey, SurveyFault, look_over};
+pub use unknown::Unknown;
+
+#[cfg(test)]
+mod tests;

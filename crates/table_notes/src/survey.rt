@@ -1,0 +1,96 @@
+//! The survey of a text that may be a fare table.
+
+ghost use Rattle.std.specs.Prelude.{◌≡◌, ◌≢◌, None, Some, IfOk, IfErr};
+ghost use Rattle.toml.specs.View.{table_view};
+ghost use Rattle.table_notes.specs.declared.survey.SurveyFault.TheVariants.{Memory};
+ghost use Rattle.table_notes.specs.Survey.{document_in, IsSurveyOf, HasNoSurvey};
+
+use crate::above::{Above, first_above};
+use crate::misread::Misread;
+use crate::tree::count_at;
+use crate::unknown::{Unknown, unknown_keys};
+use std::alloc::{AllocError, Global};
+use std::str;
+use thiserror::Error;
+use toml::Table;
+
+/// What there is to tell of a TOML document beside what a report has.
+#[derive(Debug, Drop)]
+pub struct Survey {
+    /// The keys that aren't known.
+    pub unknown: Vec<Unknown>,
+    /// How many rows the list of pairs has.
+    pub pairs: usize,
+    /// How many rows the list of interchanges has.
+    pub interchanges: usize,
+    /// How many holidays there are.
+    pub holidays: usize,
+    /// The first price above its maximum.
+    pub above: Option<Above>,
+}
+
+/// Why bytes can't be surveyed.
+#[derive(Debug, Drop, Error)]
+pub enum SurveyFault {
+    /// Memory was refused.
+    #[error("no memory")]
+    Memory,
+    /// The bytes are no TOML document.
+    #[error("{0}")]
+    Misread(Misread),
+}
+
+impl From<AllocError> for SurveyFault {
+    ghost from_gives = { λ _ fault. fault ≡ Memory };
+
+    fn from(_error: AllocError) -> SurveyFault {
+        SurveyFault::Memory
+    }
+}
+
+/// Looks a text over, which needn't be a valid fare table.
+///
+/// `Misread` comes where it is no TOML document, and `Memory` says nothing of it.
+pub fn look_over(alloc: Global, bytes: &[u8]) -> Result<Survey, SurveyFault>
+    ensures ok { IfOk result (IsSurveyOf bytes.now) }
+    ensures fault { IfErr result (HasNoSurvey bytes.now) }
+{
+    let tree = tree_of(alloc, bytes)?;
+    Ok(Survey {
+        unknown: unknown_keys(alloc, &tree)?,
+        pairs: count_at(&tree, "pair"),
+        interchanges: count_at(&tree, "interchange"),
+        holidays: count_at(&tree, "holidays"),
+        above: first_above(&tree),
+    })
+}
+
+/// The tree that the bytes stand for.
+#[tactic(auto, using(crate::proofs::DocumentLemmas::document_facts))]
+fn tree_of(alloc: Global, bytes: &[u8]) -> Result<Table, SurveyFault>
+    ensures ok { IfOk result (λ tree. document_in bytes.now ≡ Some (table_view tree)) }
+    ensures fault { IfErr result (HasNoSurvey bytes.now) }
+{
+    let text = match str::from_utf8(bytes) {
+        Ok(text) => text,
+        Err(error) => return Err(misread(alloc, bytes, error.valid_up_to(), "not UTF-8")),
+    };
+    match toml::table_from_str(alloc, text) {
+        Ok(tree) => Ok(tree),
+        Err(error) => match error.span() {
+            Some(span) => Err(misread(alloc, bytes, span.start, error.message())),
+            None => Err(SurveyFault::Memory),
+        },
+    }
+}
+
+/// The bytes can't be read on from this place, for this reason.
+fn misread(alloc: Global, bytes: &[u8], place: usize, reason: &str) -> SurveyFault
+    ensures { document_in bytes.now ≡ None → HasNoSurvey bytes.now result }
+{
+    let before = bytes.get(..place).unwrap_or(bytes);
+    match Misread::behind(alloc, before, reason) {
+        Ok(misread) => SurveyFault::Misread(misread),
+        Err(_) => SurveyFault::Memory,
+    }
+}
