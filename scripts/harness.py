@@ -2,6 +2,7 @@
 import hashlib
 import os
 import pathlib
+import re
 import subprocess
 import sys
 import tempfile
@@ -35,11 +36,27 @@ def library(folder, name, source):
     return built
 
 
+# What stands on standard error beside the line of a fault and beside a table's report.
+BESIDE = re.compile(r"^(?:  .*|note: .*|(?:pairs|interchanges|holidays) \d+)\n", re.M)
+
+
 def run(words, given=b"", **options):
-    """Runs the program: its status, its output, and what stands on standard error."""
+    """Runs the program: its status, its output, and what stands on standard error, but for what scripts/told-faults
+    looks at: the line behind that of a fault, and the notes on a table."""
+    status, out, err = run_whole(words, given, **options)
+    return status, out, fault_of(err)
+
+
+def run_whole(words, given=b"", **options):
+    """Runs the program: its status, its output, and all that stands on standard error."""
     words = [os.fsencode(word) for word in (PROGRAM, *words)]
     done = subprocess.run(words, input=given, capture_output=True, timeout=TIME, **options)
     return done.returncode, done.stdout, done.stderr.decode()
+
+
+def fault_of(err):
+    """What stands on standard error without the line behind that of a fault, and without notes."""
+    return BESIDE.sub("", err)
 
 
 def check(table, path="table.toml", **options):

@@ -77,9 +77,9 @@ fault_in bytes = if is_utf8 bytes then first_fault bytes else Some NotToml
 
 -- why these bytes gave no table: their fault, or there was no memory, or a read failed
 abbrev pub IsTableFault : List ℕ → CommandFault → Type 0
-IsTableFault bytes (Table fault) = fault_in bytes ≡ Some fault
+IsTableFault bytes (Table fault _) = fault_in bytes ≡ Some fault
 IsTableFault bytes (Run Memory) = Unit {0}
-IsTableFault bytes File = Unit {0}
+IsTableFault bytes (File _) = Unit {0}
 IsTableFault bytes _ = ⊥
 
 -- the program's report has this text and says so of the table

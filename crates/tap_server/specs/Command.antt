@@ -6,13 +6,14 @@ use Rattle.fare_table.specs.declared.fault.TableFault.TheVariants as tables
 use Rattle.fare_schedule.specs.Supply.{supply_fault}
 use Rattle.fare_schedule.specs.declared.schedule.Schedule.{Schedule}
 use Rattle.line_replay.specs.declared.fault.RunFault.TheVariants as runs
+use Rattle.tap_server.specs.Detail.{no_detail}
 use Rattle.tap_server.specs.declared.fault.CommandFault.{CommandFault}
 use Rattle.tap_server.specs.declared.fault.CommandFault.TheVariants.{Run, Table, Supply}
 
 -- a table that was refused for want of memory says nothing of the table: the run failed
 abbrev pub command_fault : TableFault → CommandFault
 command_fault tables.Memory = Run runs.Memory
-command_fault fault = Table fault
+command_fault fault = Table fault no_detail
 
 -- why the further table of this place isn't taken: its first cause, or there was no memory
 abbrev pub IsSupplyFault : Schedule → Fares → ℕ → CommandFault → Type 0

@@ -5,3 +5,5 @@ pub mod Clerk
 pub mod Post
 pub mod Command
 pub mod Check
+pub mod Detail
+pub mod Refusal

@@ -7,6 +7,7 @@ ghost use Rattle.fare_table.specs.Table.{IsTableOf};
 ghost use Rattle.fare_table.specs.declared.fault.TableFault.TheVariants as fault;
 ghost use Rattle.tap_server.specs.Check.{report_of, fault_in, lines_of_table, HasChecked, IsReport, IsTableFault};
 
+use crate::detail::Detail;
 use crate::fault::CommandFault;
 use fare_table::{Fares, TableFault};
 use gate_session::write_text;
@@ -57,7 +58,7 @@ pub(crate) fn table_of<R: Read>(
 {
     let bytes = match read_all(alloc, reader, turns) {
         Ok(bytes) => bytes,
-        Err(RunFault::Read) => return Err(CommandFault::File),
+        Err(RunFault::Read) => return Err(CommandFault::File(Detail::none())),
         Err(fault) => return Err(fault.into()),
     };
     Ok(read_table(alloc, &bytes)?)

@@ -1,10 +1,11 @@
-//! Why a command didn't do what it was asked for.
+//! Why a command didn't do what it was asked for, and what is told of it on standard error.
 
 ghost use Rattle.std.specs.Prelude.{◌≡◌};
 ghost use Rattle.line_replay.specs.declared.fault.RunFault.TheVariants.{Memory};
 ghost use Rattle.tap_server.specs.declared.fault.CommandFault.TheVariants.{Journal, Migrate, Run};
 ghost use Rattle.tap_server.specs.Command.{command_fault};
 
+use crate::detail::Detail;
 use clap::Error as LineError;
 use clap::error::ErrorKind;
 use fare_schedule::SupplyFault;
@@ -23,10 +24,10 @@ pub enum CommandFault {
     Line(LineError),
     /// A file of the command line can't be opened or made, or can't be read to its end.
     #[error("fault file")]
-    File,
+    File(Detail),
     /// The file's fare table is refused.
     #[error("{0}")]
-    Table(TableFault),
+    Table(TableFault, Detail),
     /// The table in the file of this place among the further ones, from 1, is refused beside the
     /// tables before it.
     #[error("fault supply {0} {1}")]
@@ -39,7 +40,7 @@ pub enum CommandFault {
     Migrate(MigrateCause),
     /// The address can't be listened on.
     #[error("fault listen")]
-    Listen,
+    Listen(Detail),
     /// Not as many seats came back to the closing as were made. No run shows it.
     #[error("fault close 1 SeatMissing")]
     SeatMissing,
@@ -49,6 +50,18 @@ pub enum CommandFault {
     /// The run over the input ended early.
     #[error("{0}")]
     Run(RunFault),
+}
+
+impl CommandFault {
+    /// The line that stands behind the fault's, where there is one.
+    pub(crate) fn detail(&self) -> Option<&str> {
+        match self {
+            CommandFault::File(detail) => detail.line(),
+            CommandFault::Table(_, detail) => detail.line(),
+            CommandFault::Listen(detail) => detail.line(),
+            _ => None,
+        }
+    }
 }
 
 impl From<RunFault> for CommandFault {
@@ -66,7 +79,7 @@ impl From<TableFault> for CommandFault {
     fn from(fault: TableFault) -> CommandFault {
         match fault {
             TableFault::Memory => CommandFault::Run(RunFault::Memory),
-            fault => CommandFault::Table(fault),
+            fault => CommandFault::Table(fault, Detail::none()),
         }
     }
 }

@@ -5,21 +5,25 @@
 
 ghost use Rattle.command_line.specs.Arguments.{IsWithin};
 
+mod behind;
 mod check;
 mod clerk;
+mod detail;
 mod fault;
 mod gate_line;
 mod migrate;
+mod notes;
 mod notice;
 mod post;
+mod refusal;
 mod report;
 mod server;
 mod tables;
 mod tally;
 
-use crate::check::check_table;
 use crate::fault::CommandFault;
 use crate::migrate::migrate_journal;
+use crate::notes::check_file;
 use crate::server::serve_gates;
 use crate::tables::{first_table, schedule_of};
 use command_line::{Arguments, arguments_of, refuse_bytes};
@@ -97,21 +101,6 @@ fn replay_input<R: AllocGlobal + Files + Input + Print>(
     Ok(ExitCode::SUCCESS)
 }
 
-/// Checks the fare table in a file, and writes to standard output what it is.
-fn check_file<R: AllocGlobal + Files + Print>(
-    rt: &R,
-    path: &str,
-) -> Result<ExitCode, CommandFault> {
-    let mut file = File::open(rt, path).map_err(|_| CommandFault::File)?;
-    let mut writer = io::writer(rt);
-    match check_table(rt.alloc(), &mut file, &mut writer, TURNS) {
-        Ok(true) => Ok(ExitCode::SUCCESS),
-        Ok(false) => Ok(ExitCode::from(1)),
-        Err(RunFault::Read) => Err(CommandFault::File),
-        Err(fault) => Err(fault.into()),
-    }
-}
-
 /// Tells why a command wasn't done, and answers the status: that of `clap` for a command line, else 1.
 fn tell<R: Print + Eprint>(rt: &R, fault: CommandFault) -> io::Result<ExitCode> {
     match fault {
@@ -120,7 +109,10 @@ fn tell<R: Print + Eprint>(rt: &R, fault: CommandFault) -> io::Result<ExitCode> 
             Ok(ExitCode::from(error.exit_code() as u8))
         }
         fault => {
-            rt.eprintln(fault)?;
+            rt.eprintln(&fault)?;
+            if let Some(detail) = fault.detail() {
+                rt.eprintln(detail)?;
+            }
             Ok(ExitCode::from(1))
         }
     }

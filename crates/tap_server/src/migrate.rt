@@ -1,6 +1,8 @@
 //! The command `migrate`: a journal of the first format, carried over to a new file.
 
+use crate::behind::{slots_behind, tell_behind};
 use crate::fault::CommandFault;
+use crate::refusal::journal_fault;
 use crate::report::write_migrated;
 use crate::tables::first_table;
 use command_line::Migrate;
@@ -15,17 +17,25 @@ use tap_journal::Journal;
 /// Carries a journal of the first format over to a new file, and writes how many touches it has.
 ///
 /// The table is looked at first, then the old file, and only then the new file is made. The old file
-/// is opened for reading alone.
-pub(crate) fn migrate_journal<R: AllocGlobal + Files<File = File> + Print>(
+/// is opened for reading alone. Open slots behind its end are told of.
+pub(crate) fn migrate_journal<R: AllocGlobal + Files<File = File> + Print + Eprint>(
     rt: &R,
     asked: &Migrate<'_>,
 ) -> Result<ExitCode, CommandFault> {
     let digest = first_table(rt, Some(asked.table))?.digest();
-    let source = FileDisk::read_only(rt, asked.from).map_err(|_| CommandFault::File)?;
-    let target = FileDisk::at(rt, asked.to).map_err(|_| CommandFault::File)?;
+    let source = match FileDisk::read_only(rt, asked.from) {
+        Ok(disk) => disk,
+        Err(_) => return Err(journal_fault(rt, asked.from, false)),
+    };
+    let target = match FileDisk::at(rt, asked.to) {
+        Ok(disk) => disk,
+        Err(_) => return Err(journal_fault(rt, asked.to, true)),
+    };
+    let behind = slots_behind(rt, asked.from);
     match Journal::migrate(rt.alloc(), source, target, asked.cards, &digest) {
         Ok((_, _, touches)) => {
             write_migrated(&mut io::writer(rt), touches).map_err(|_| RunFault::Write)?;
+            tell_behind(rt, behind);
             Ok(ExitCode::SUCCESS)
         }
         Err(fault) => Err(fault.cause.into()),

@@ -7,10 +7,13 @@ ghost use Rattle.tap_office.specs.Opening.{opened_of};
 ghost use Rattle.command_line.specs.Arguments.{IsServeAllowed};
 ghost use Rattle.tap_server.specs.Tally.{IsBelow};
 
+use crate::behind::{slots_behind, tell_behind};
+use crate::detail::Detail;
 use crate::fault::CommandFault;
 use crate::gate_line::{GateLine, TcpLines};
 use crate::notice::{Notices, Watch};
 use crate::post::{Post, serve_all};
+use crate::refusal::{journal_fault, listen_fault};
 use crate::report::{write_opened, write_report};
 use crate::tables::{first_table, schedule_of};
 use crate::tally::Tally;
@@ -38,7 +41,8 @@ use tcp_line::TcpLine;
 const TURNS: u32 = 1_000_000;
 
 /// Opens the office of a journal, which is made where its file is empty, serves gates until all lines
-/// are done, closes the office and writes the report. The tables are looked at before the journal.
+/// are done, closes the office and writes the report. The tables are looked at before the journal,
+/// and open slots behind its end are told of.
 pub(crate) fn serve_gates<
     R: AllocGlobal
         + Files<File = File>
@@ -56,11 +60,13 @@ pub(crate) fn serve_gates<
     let digest = first.digest();
     let schedule = schedule_of(rt, first, asked.revisions.as_slice())?;
     let disk = journal_disk(rt, &digest, asked)?;
+    let behind = slots_behind(rt, asked.journal);
     let seats = asked.lines as u16;
     let opening = match Opening::read(rt.alloc(), disk, schedule, asked.cards, seats) {
         Ok(opening) => opening,
         Err(fault) => return Err(fault.cause.into()),
     };
+    tell_behind(rt, behind);
     serve_opening::<Brand, FileDisk, R>(rt, opening, asked)
 }
 
@@ -71,7 +77,10 @@ fn journal_disk<R: AllocGlobal + Files<File = File>>(
     digest: &[u8; 32],
     asked: &Serve<'_>,
 ) -> Result<FileDisk, CommandFault> {
-    let mut disk = FileDisk::at(rt, asked.journal).map_err(|_| CommandFault::File)?;
+    let mut disk = match FileDisk::at(rt, asked.journal) {
+        Ok(disk) => disk,
+        Err(_) => return Err(journal_fault(rt, asked.journal, true)),
+    };
     let Ok(size) = disk.len() else {
         return Err(JournalFault::Device.into());
     };
@@ -106,7 +115,10 @@ fn serve_opening<
         Ok(made) => made,
         Err(fault) => return Err(fault.cause.into()),
     };
-    let listener = TcpListener::bind(rt, asked.listen).map_err(|_| CommandFault::Listen)?;
+    let listener = match TcpListener::bind(rt, asked.listen) {
+        Ok(listener) => listener,
+        Err(error) => return Err(listen_fault(alloc, asked.listen, &error)),
+    };
     let told = AtomicBool::new(false);
     let lines = TcpLines {
         ended: AtomicBool::new(false),
@@ -151,7 +163,10 @@ fn connections_of(asked: &Serve<'_>) -> u64 {
 
 /// The line that tells where gates can connect.
 fn listening_line(alloc: Global, listener: &TcpListener) -> Result<String, CommandFault> {
-    let address = listener.local_addr().map_err(|_| CommandFault::Listen)?;
+    let address = match listener.local_addr() {
+        Ok(address) => address,
+        Err(_) => return Err(CommandFault::Listen(Detail::none())),
+    };
     Ok(format!(in alloc; "listening {address}")?)
 }
 

@@ -1,4 +1,4 @@
-//! The fare tables that a command's words name.
+//! The fare tables that a command's words name, and what is told of one that is refused.
 
 ghost use Rattle.std.specs.Prelude.{◌≡◌, ◌++◌, ◌∷◌, [], None, IfOk, IfErr, OnOk, OnErr};
 ghost use Rattle.fare_schedule.specs.Schedule.{tables_of, revisions_of};
@@ -6,15 +6,19 @@ ghost use Rattle.fare_schedule.specs.Supply.{supply_fault};
 ghost use Rattle.tap_server.specs.Command.{IsSupplyFault};
 
 use crate::check::table_of;
+use crate::detail::Detail;
 use crate::fault::CommandFault;
+use crate::refusal::{open_refusal, read_refusal};
 use fare_schedule::{Schedule, SupplyFault};
-use fare_table::{EXAMPLE_TABLE, Fares};
-use line_replay::RunFault;
+use fare_table::{EXAMPLE_TABLE, Fares, TableFault};
+use line_replay::{RunFault, read_all};
+use std::alloc::Global;
 use std::fs::File;
 use std::rt::Files;
+use table_notes::{Survey, SurveyFault, look_over};
 
 /// How many reads are made of a table's file at most.
-const TURNS: u32 = 1_000_000;
+pub(crate) const TURNS: u32 = 1_000_000;
 
 /// The first fare table: that in a file, or the example table where no file is named.
 pub(crate) fn first_table<R: AllocGlobal + Files>(
@@ -63,6 +67,59 @@ fn supply(schedule: &mut Schedule, table: Fares, place: usize) -> Result<(), Com
 
 /// The fare table in a file.
 fn table_in<R: AllocGlobal + Files>(rt: &R, path: &str) -> Result<Fares, CommandFault> {
-    let mut file = File::open(rt, path).map_err(|_| CommandFault::File)?;
-    table_of(rt.alloc(), &mut file, TURNS)
+    let bytes = bytes_in(rt, path)?;
+    let mut reader = bytes.as_slice();
+    match table_of(rt.alloc(), &mut reader, TURNS) {
+        Ok(fares) => Ok(fares),
+        Err(CommandFault::Table(fault, _)) => {
+            let detail = table_detail(rt.alloc(), path, bytes.as_slice(), fault);
+            Err(CommandFault::Table(fault, detail))
+        }
+        Err(fault) => Err(fault),
+    }
+}
+
+/// What a file holds, read to its end.
+pub(crate) fn bytes_in<R: AllocGlobal + Files>(
+    rt: &R,
+    path: &str,
+) -> Result<Vec<u8>, CommandFault> {
+    let alloc = rt.alloc();
+    let mut file = match File::open(rt, path) {
+        Ok(file) => file,
+        Err(error) => {
+            let refusal = open_refusal(rt, path, &error);
+            return Err(CommandFault::File(Detail::of(alloc, path, &refusal)));
+        }
+    };
+    match read_all(alloc, &mut file, TURNS) {
+        Ok(bytes) => Ok(bytes),
+        Err(RunFault::Read) => {
+            let refusal = read_refusal(&file);
+            Err(CommandFault::File(Detail::of(alloc, path, &refusal)))
+        }
+        Err(fault) => Err(fault.into()),
+    }
+}
+
+/// What is told of a table's fault beside its line: the file, and where the line has no place, the
+/// place.
+fn table_detail(alloc: Global, path: &str, bytes: &[u8], fault: TableFault) -> Detail {
+    match fault {
+        TableFault::NotToml => place_detail(alloc, path, &look_over(alloc, bytes)),
+        TableFault::MaximumTooLow => place_detail(alloc, path, &look_over(alloc, bytes)),
+        _ => Detail::of_file(alloc, path),
+    }
+}
+
+/// The place in a file that a survey of it has found to be bad.
+fn place_detail(alloc: Global, path: &str, surveyed: &Result<Survey, SurveyFault>) -> Detail {
+    match surveyed {
+        Err(SurveyFault::Misread(misread)) => Detail::of(alloc, path, misread),
+        Ok(survey) => match &survey.above {
+            Some(above) => Detail::of(alloc, path, above),
+            None => Detail::of_file(alloc, path),
+        },
+        Err(SurveyFault::Memory) => Detail::of_file(alloc, path),
+    }
 }

@@ -6,6 +6,7 @@ mod scripts;
 mod serve;
 mod sessions;
 
+use crate::detail::Detail;
 use crate::fault::CommandFault;
 use fare_schedule::{Schedule, SupplyFault};
 use fare_table::{EXAMPLE_TABLE, Fares, TableFault};
@@ -43,8 +44,8 @@ fn a_fault_is_told_in_one_line(rt: HostRuntime) {
     assert_told(&rt, RunFault::Read.into(), "fault run 2 Read");
     assert_told(&rt, RunFault::Write.into(), "fault run 3 Write");
     assert_told(&rt, RunFault::BadLine(7).into(), "fault run 4 BadLine 7");
-    assert_told(&rt, CommandFault::File, "fault file");
-    assert_told(&rt, CommandFault::Listen, "fault listen");
+    assert_told(&rt, CommandFault::File(Detail::none()), "fault file");
+    assert_told(&rt, CommandFault::Listen(Detail::none()), "fault listen");
     let zone = CommandFault::Supply(SupplyFault::OtherZone, 1);
     assert_told(&rt, zone, "fault supply 3 OtherZone 1");
 }
