@@ -1,7 +1,7 @@
 -- The items of a list of a tree, beside the values that the code holds.
-use Rattle.std.proofs.Common.{◌≡◌, List, [], ◌∷◌, map, length, Some, Vec, Global, refl, ap, ◌∙◌}
+use Rattle.std.proofs.Common.{◌≡◌, List, [], ◌∷◌, map, Some, Vec, Global, refl, ap, ◌∙◌}
 use Rattle.toml.proofs.Views.{view-Array}
-use Rattle.toml.specs.Data.{Data, array}
+use Rattle.toml.specs.Data.{Data}
 use Rattle.toml.specs.View.{view, items_of, items_view}
 use Rattle.toml.specs.declared.value.Value.{Value, Array}
 use Rattle.table_notes.specs.Survey.{elements_of, items_in}
