@@ -31,11 +31,10 @@ pub(crate) fn migrate_journal<R: AllocGlobal + Files<File = File> + Print + Epri
         Ok(disk) => disk,
         Err(_) => return Err(journal_fault(rt, asked.to, true)),
     };
-    let behind = slots_behind(rt, asked.from);
     match Journal::migrate(rt.alloc(), source, target, asked.cards, &digest) {
         Ok((_, _, touches)) => {
             write_migrated(&mut io::writer(rt), touches).map_err(|_| RunFault::Write)?;
-            tell_behind(rt, behind);
+            tell_behind(rt, slots_behind(rt, asked.from, touches));
             Ok(ExitCode::SUCCESS)
         }
         Err(fault) => Err(fault.cause.into()),

@@ -60,13 +60,11 @@ pub(crate) fn serve_gates<
     let digest = first.digest();
     let schedule = schedule_of(rt, first, asked.revisions.as_slice())?;
     let disk = journal_disk(rt, &digest, asked)?;
-    let behind = slots_behind(rt, asked.journal);
     let seats = asked.lines as u16;
     let opening = match Opening::read(rt.alloc(), disk, schedule, asked.cards, seats) {
         Ok(opening) => opening,
         Err(fault) => return Err(fault.cause.into()),
     };
-    tell_behind(rt, behind);
     serve_opening::<Brand, FileDisk, R>(rt, opening, asked)
 }
 
@@ -98,6 +96,7 @@ fn serve_opening<
     N: Named + Send + Sync,
     D: Disk + Drop + Send,
     R: AllocGlobal
+        + Files<File = File>
         + Net<Listener = TcpListener, Stream = TcpStream>
         + Clock
         + Threads
@@ -115,6 +114,7 @@ fn serve_opening<
         Ok(made) => made,
         Err(fault) => return Err(fault.cause.into()),
     };
+    tell_behind(rt, slots_behind(rt, asked.journal, office.opened()));
     let listener = match TcpListener::bind(rt, asked.listen) {
         Ok(listener) => listener,
         Err(error) => return Err(listen_fault(alloc, asked.listen, &error)),
