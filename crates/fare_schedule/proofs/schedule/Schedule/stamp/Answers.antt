@@ -14,11 +14,11 @@ pub returns : goal.returns
 returns c =
     let schedule = c.args.self.now in
     let by_first : c.in_ok-by_first.by_first ≡ stamp_of (content_of schedule.first) c.args.moment =
-        IfOk-at_ok (λ (s : Stamp). s ≡ stamp_of (content_of schedule.first) c.args.moment) c.in_ok-by_first.was
-        (subst (λ r. IfOk r (λ s. s ≡ stamp_of (content_of schedule.first) c.args.moment)) (sym c.stamp.ensures) refl) in
+    IfOk-at_ok (λ (s : Stamp). s ≡ stamp_of (content_of schedule.first) c.args.moment) c.in_ok-by_first.was
+    (subst (λ r. IfOk r (λ s. s ≡ stamp_of (content_of schedule.first) c.args.moment)) (sym c.stamp.ensures) refl) in
     let fits : FitsSigned w32 c.in_ok-by_first.by_first.day = search rules in
     let table : c.on.result.now ≡ table_on schedule c.in_ok-by_first.by_first.day =
-        c.on.ensures ∙ ap (table_on schedule) (to_z-of_z w32 c.in_ok-by_first.by_first.day fits) in
+    c.on.ensures ∙ ap (table_on schedule) (to_z-of_z w32 c.in_ok-by_first.by_first.day fits) in
     rw c.restamp.ensures (rw table (rw by_first (ap Ok
     (restamped (content_of schedule.first).zone (content_of schedule.first).holidays
     (content_on schedule (fare_day schedule c.args.moment)).holidays c.args.moment))))
