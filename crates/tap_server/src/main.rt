@@ -5,6 +5,7 @@
 
 ghost use Rattle.command_line.specs.Arguments.{IsWithin};
 
+mod begun;
 mod behind;
 mod check;
 mod clerk;

@@ -1,14 +1,18 @@
-//! What is told while a server runs: its disk has failed, or its journal is full, or nearly so.
+//! What is told while a server runs: its disk has failed, its journal is full, or nearly so, or fewer
+//! of its lines serve than were asked for.
 
 ghost use Rattle.std.specs.Prelude.{◌≡◌, ◌↔◌, ◌≤◌, IsTrue};
 ghost use Rattle.tap_server.specs.Notice.{IsNearlyFull, notice_of};
 
+use crate::begun::Begun;
 use std::sync::atomic::{AtomicBool, AtomicU32, Ordering};
+use std::time::Clock;
 use tap_office::SubmitFault;
 use tcp_line::Unhindered;
 use thiserror::Error;
 
-/// What befalls a server, with how many entries its history has. It prints as the line that is told.
+/// What befalls a server. It prints as the line that is told. A number of entries is how many its history
+/// has.
 #[derive(Clone, Copy, Debug, PartialEq, Eq, Error)]
 pub enum Notice {
     /// The journal's disk has failed.
@@ -20,10 +24,20 @@ pub enum Notice {
     /// It has room for a tenth of its capacity at most.
     #[error("nearly full {0}")]
     NearlyFull(u32),
+    /// So many lines serve, of so many that were asked for: no thread could be made for the others.
+    #[error("lines {0} of {1}")]
+    Lines(u32, u32),
 }
 
-/// Who watches over an office: its clerks say what they see, once for each touch.
+/// Who watches over a server: its lines and its clerks say what they see, once for each connection and
+/// for each touch.
 pub(crate) trait Watch {
+    /// A line has begun: it takes up connections from now on.
+    fn begun(&self);
+
+    /// A gate was connected to a line.
+    fn connected(&self);
+
     /// A touch was answered, when the history had so many entries.
     fn answered(&self, entries: u32);
 
@@ -45,6 +59,8 @@ pub(crate) struct Notices<'a, R, L> {
     rt: &'a R,
     /// The lines that end where the disk has failed. Without them all go on.
     lines: Option<&'a L>,
+    /// The lines, as far as they have begun.
+    begun: Begun,
     /// How many entries the journal has room for.
     capacity: u32,
     /// The most entries that were seen.
@@ -55,18 +71,20 @@ pub(crate) struct Notices<'a, R, L> {
     nearly_full: AtomicBool,
 }
 
-impl<'a, R: Eprint, L: Lines> Notices<'a, R, L> {
-    /// A watch that has told nothing, over an office of this capacity that opened with so many
-    /// entries.
+impl<'a, R: Clock + Eprint, L: Lines> Notices<'a, R, L> {
+    /// A watch that has told nothing, over so many lines that can begin now, and an office of this
+    /// capacity that opened with so many entries.
     pub(crate) fn new(
         rt: &'a R,
         lines: Option<&'a L>,
+        asked: u32,
         capacity: u32,
         opened: u32,
     ) -> Notices<'a, R, L> {
         Notices {
             rt,
             lines,
+            begun: Begun::new(rt, asked),
             capacity,
             entries: AtomicU32::new(opened),
             halted: AtomicBool::new(false),
@@ -75,38 +93,56 @@ impl<'a, R: Eprint, L: Lines> Notices<'a, R, L> {
         }
     }
 
-    /// Tells a notice, where its kind wasn't told yet. What standard error doesn't take at once is
-    /// dropped.
-    fn tell(&self, notice: Notice) {
-        let told = match notice {
-            Notice::Halted(_) => &self.halted,
-            Notice::Full(_) => &self.full,
-            Notice::NearlyFull(_) => &self.nearly_full,
-        };
+    /// Tells a notice, where this kind wasn't told yet.
+    fn tell(&self, told: &AtomicBool, notice: Notice) {
         if !told.load(Ordering::Relaxed) && !told.swap(true, Ordering::Relaxed) {
-            let _ = Unhindered(self.rt).eprintln(notice);
+            self.print(notice);
         }
+    }
+
+    /// Tells what is to be told of the lines.
+    fn look_at_lines(&self) {
+        if let Some(notice) = self.begun.notice(self.rt) {
+            self.print(notice);
+        }
+    }
+
+    /// Prints a notice. What standard error doesn't take at once is dropped.
+    fn print(&self, notice: Notice) {
+        let _ = Unhindered(self.rt).eprintln(notice);
     }
 }
 
-impl<R: Eprint, L: Lines> Watch for Notices<'_, R, L> {
+impl<R: Clock + Eprint, L: Lines> Watch for Notices<'_, R, L> {
+    fn begun(&self) {
+        self.begun.count();
+    }
+
+    fn connected(&self) {
+        self.look_at_lines();
+    }
+
     fn answered(&self, entries: u32) {
+        self.look_at_lines();
         if entries > self.entries.load(Ordering::Relaxed) {
             self.entries.fetch_max(entries, Ordering::Relaxed);
         }
         if is_nearly_full(self.capacity, entries) {
-            self.tell(Notice::NearlyFull(entries));
+            self.tell(&self.nearly_full, Notice::NearlyFull(entries));
         }
     }
 
     fn refused(&self, fault: SubmitFault) {
         let entries = self.entries.load(Ordering::Relaxed);
-        let Some(notice) = notice_of(fault, self.capacity, entries) else {
-            return;
-        };
-        self.tell(notice);
-        if let (Notice::Halted(_), Some(lines)) = (notice, self.lines) {
-            lines.end();
+        match notice_of(fault, self.capacity, entries) {
+            Some(Notice::Halted(entries)) => {
+                self.tell(&self.halted, Notice::Halted(entries));
+                if let Some(lines) = self.lines {
+                    lines.end();
+                }
+            }
+            Some(Notice::Full(entries)) => self.tell(&self.full, Notice::Full(entries)),
+            _ => {}
         }
     }
 }

@@ -102,6 +102,7 @@ fn serve_post<L: GateLine, N: Named, D: Disk, T: Watch, R: Wait>(
         desk,
         tally,
     } = post;
+    watch.begun();
     for _ in 0..connections {
         if !tally.has_room() {
             return;
@@ -109,6 +110,7 @@ fn serve_post<L: GateLine, N: Named, D: Disk, T: Watch, R: Wait>(
         let Some((mut reader, mut writer)) = line.connect() else {
             return;
         };
+        watch.connected();
         let served = serve_connection(
             rt,
             alloc,

@@ -129,7 +129,7 @@ fn serve_opening<
     } else {
         Some(&lines)
     };
-    let watch = Notices::new(rt, ends, capacity, office.opened());
+    let watch = Notices::new(rt, ends, asked.lines, capacity, office.opened());
     let line = TcpLine::new(rt, &listener, &told, &lines.ended, idle_of(asked));
     let posts = make_posts(alloc, &line, seats, desks)?;
     let listening = listening_line(alloc, &listener)?;

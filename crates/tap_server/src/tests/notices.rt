@@ -6,12 +6,24 @@ use std::io;
 use std::process::Abort;
 use std::sync::atomic::{AtomicU64, Ordering};
 use std::test::Fail;
+use std::time::{Clock, Duration};
 use tap_office::SubmitFault;
 
-/// Counts the lines that are told.
+/// Counts the lines that are told, and has a clock that stands still until a test moves it.
 #[derive(Drop)]
 struct Teller {
     told: AtomicU64,
+    seconds: AtomicU64,
+}
+
+impl Clock for Teller {
+    fn monotonic(&self) -> io::Result<Duration> {
+        Ok(Duration::from_secs(self.seconds.load(Ordering::Relaxed)))
+    }
+
+    fn since_1970(&self) -> io::Result<Duration> {
+        Err(io::ErrorKind::Unsupported.into())
+    }
 }
 
 impl Eprint for Teller {
@@ -42,9 +54,28 @@ impl Lines for Ends {
 pub struct Unwatched;
 
 impl Watch for Unwatched {
+    fn begun(&self) {}
+
+    fn connected(&self) {}
+
     fn answered(&self, _entries: u32) {}
 
     fn refused(&self, _fault: SubmitFault) {}
+}
+
+/// Who has told nothing, at the clock's start.
+fn new_teller() -> Teller {
+    Teller {
+        told: AtomicU64::new(0),
+        seconds: AtomicU64::new(0),
+    }
+}
+
+/// Lines that weren't ended.
+fn new_ends() -> Ends {
+    Ends {
+        ended: AtomicU64::new(0),
+    }
 }
 
 /// So many lines were told, and the lines were ended so often.
@@ -55,13 +86,9 @@ fn assert_told<R: Abort>(rt: &R, teller: &Teller, ends: &Ends, told: u64, ended:
 
 #[test]
 fn each_kind_of_notice_is_told_once(rt: HostRuntime) {
-    let teller = Teller {
-        told: AtomicU64::new(0),
-    };
-    let ends = Ends {
-        ended: AtomicU64::new(0),
-    };
-    let watch = Notices::new(&teller, Some(&ends), 10, 0);
+    let teller = new_teller();
+    let ends = new_ends();
+    let watch = Notices::new(&teller, Some(&ends), 0, 10, 0);
     watch.answered(8);
     watch.refused(SubmitFault::Conflict);
     watch.refused(SubmitFault::Memory);
@@ -78,9 +105,32 @@ fn each_kind_of_notice_is_told_once(rt: HostRuntime) {
     assert_told(&rt, &teller, &ends, 3, 1);
     watch.refused(SubmitFault::Halted);
     assert_eq!(rt; teller.told.load(Ordering::Relaxed), 3);
-    let stays: Notices<'_, Teller, Ends> = Notices::new(&teller, None, 10, 9);
+    let stays: Notices<'_, Teller, Ends> = Notices::new(&teller, None, 0, 10, 9);
     stays.refused(SubmitFault::Halted);
     assert_eq!(rt; teller.told.load(Ordering::Relaxed), 4);
+}
+
+#[test]
+fn lines_that_have_not_begun_are_told_once_they_had_time(rt: HostRuntime) {
+    let teller = new_teller();
+    let ends = new_ends();
+    let watch = Notices::new(&teller, Some(&ends), 2, 10, 0);
+    watch.begun();
+    watch.connected();
+    watch.answered(1);
+    assert_told(&rt, &teller, &ends, 0, 0);
+    teller.seconds.store(1, Ordering::Relaxed);
+    watch.answered(2);
+    assert_told(&rt, &teller, &ends, 1, 0);
+    watch.answered(3);
+    watch.connected();
+    assert_told(&rt, &teller, &ends, 1, 0);
+    let whole = Notices::new(&teller, Some(&ends), 1, 10, 0);
+    whole.begun();
+    teller.seconds.store(2, Ordering::Relaxed);
+    whole.connected();
+    whole.answered(1);
+    assert_told(&rt, &teller, &ends, 1, 0);
 }
 
 #[test]
@@ -89,6 +139,7 @@ fn a_notice_is_told_with_its_entries(rt: HostRuntime) -> Result<(), Fail> {
         (Notice::Halted(2), "halted 2"),
         (Notice::Full(1_000_000), "full 1000000"),
         (Notice::NearlyFull(9), "nearly full 9"),
+        (Notice::Lines(3, 8), "lines 3 of 8"),
     ] {
         assert_eq!(rt; notice.to_string(rt.alloc())?.as_str(), line);
     }
