@@ -1,9 +1,11 @@
 -- Which command lines are allowed (docs/OPERATING.md; this project's choice).
-use Rattle.std.specs.Prelude.{◌≤◌, ℕ, IfSome}
+use Rattle.std.specs.Prelude.{◌≡◌, ◌≤◌, ℕ, IfSome, length}
 use Rattle.command_line.specs.declared.arguments.Arguments.{Arguments}
 use Rattle.command_line.specs.declared.arguments.Arguments.TheVariants as asked
 use Rattle.command_line.specs.declared.arguments.Serve.{Serve}
 use Rattle.command_line.specs.declared.arguments.Migrate.{Migrate}
+use Rattle.command_line.specs.declared.seal.Seal.{Seal}
+use Rattle.command_line.specs.declared.seal.Seal.TheVariants.{Unasked, Made, Kept}
 
 -- the number is from 1 to this limit
 abbrev pub IsWithin : ℕ → ℕ → Type 0
@@ -19,9 +21,16 @@ pub record IsServeAllowed (serve : Serve) : Type 0 where
   pub connections : IfSome serve.connections (IsWithin 1_000_000)
   pub idle : IfSome serve.idle (IsWithin 1_000_000)
 
+-- a seal that is held against is of at most 1,000,000 touches, and its digest has 32 bytes
+abbrev pub IsSealAllowed : Seal → Type 0
+IsSealAllowed Unasked = Unit {0}
+IsSealAllowed Made = Unit {0}
+IsSealAllowed (Kept touches digest) = (touches ≤ 1_000_000) × (length digest ≡ 32)
+
 -- so it is of each command
 abbrev pub IsAllowed : Arguments → Type 0
 IsAllowed (asked.Replay table cards revisions) = IsWithin 100_000 cards
 IsAllowed (asked.Check table) = Unit {0}
 IsAllowed (asked.Serve serve) = IsServeAllowed serve
 IsAllowed (asked.Migrate migrate) = IsWithin 100_000 migrate.cards
+IsAllowed (asked.Verify verify) = IsSealAllowed verify.seal

@@ -6,6 +6,7 @@ ghost use Rattle.clap.specs.declared.error.kind.ErrorKind.TheVariants.{InvalidVa
 ghost use Rattle.command_line.specs.Arguments.{IsAllowed, IsServeAllowed, IsWithin};
 
 use crate::commands::command;
+use crate::seal::{Seal, seal_asked};
 use clap::error::ErrorKind;
 use clap::{ArgMatches, Error};
 use std::alloc::{AllocError, Global};
@@ -40,6 +41,8 @@ pub enum Arguments<'a> {
     Serve(Serve<'a>),
     /// Carry a journal of the first format over to a new file.
     Migrate(Migrate<'a>),
+    /// Verify a journal, from its file alone.
+    Verify(Verify<'a>),
 }
 
 /// What a server is asked for.
@@ -80,8 +83,25 @@ pub struct Migrate<'a> {
     pub cards: u32,
 }
 
+/// What the verifying of a journal is asked for.
+#[derive(Debug, PartialEq, Eq, Drop)]
+pub struct Verify<'a> {
+    /// The path of the journal.
+    pub journal: &'a str,
+    /// The path of the first fare table, where the journal is held against tables.
+    pub table: Option<&'a str>,
+    /// The paths of further fare tables, in the order in which they were written.
+    pub revisions: Vec<&'a str>,
+    /// The seal.
+    pub seal: Seal,
+}
+
 /// What stands for a number that has a sign.
 const NOT_DECIMAL: &str = "a number is written in the digits 0 to 9 alone";
+
+/// What stands for a seal that is none.
+const NOT_A_SEAL: &str =
+    "a seal is a number from 0 to 1000000 in the digits 0 to 9, and 64 hexadecimal digits";
 
 /// The text of Rust's `clap` for this.
 const NOT_UTF8: &str = "invalid UTF-8 was detected in one or more arguments";
@@ -89,8 +109,8 @@ const NOT_UTF8: &str = "invalid UTF-8 was detected in one or more arguments";
 /// What the words of a command line ask for; the program's own name is the first of them.
 ///
 /// The error says that help or the version was asked for, or what is wrong: no command or an
-/// unknown one, a number that isn't within its limits or isn't written in decimal digits, or no
-/// file. Its text and its status are `clap`'s.
+/// unknown one, a number that isn't within its limits or isn't written in decimal digits, a seal
+/// that is none, or no file. Its text and its status are `clap`'s.
 pub fn arguments_of<'a>(alloc: Global, words: &'a [&'a str]) -> Result<Arguments<'a>, Error>
     ensures { IfOk result IsAllowed }
 {
@@ -98,7 +118,15 @@ pub fn arguments_of<'a>(alloc: Global, words: &'a [&'a str]) -> Result<Arguments
     let matches = command.try_get_matches_from_mut(words)?;
     match asked(alloc, &matches)? {
         Some(asked) => Ok(asked),
-        None => Err(command.error(ErrorKind::InvalidValue, NOT_DECIMAL)?),
+        None => Err(command.error(ErrorKind::InvalidValue, refused_by(&matches))?),
+    }
+}
+
+/// What is said of the matches of a command whose values ask for nothing.
+fn refused_by(matches: &ArgMatches<'_>) -> &'static str {
+    match matches.subcommand() {
+        Some(("verify", _)) => NOT_A_SEAL,
+        _ => NOT_DECIMAL,
     }
 }
 
@@ -109,7 +137,8 @@ pub fn refuse_bytes(alloc: Global) -> Result<Error, Error>
     Ok(command(alloc)?.error(ErrorKind::InvalidValue, NOT_UTF8)?)
 }
 
-/// What the matches ask for. `None` where a number isn't written in decimal digits.
+/// What the matches ask for. `None` where a number isn't written in decimal digits, or where a seal
+/// is none.
 fn asked<'a>(alloc: Global, matches: &ArgMatches<'a>) -> Result<Option<Arguments<'a>>, AllocError>
     ensures { IfOk result (λ asked. IfSome asked IsAllowed) }
 {
@@ -124,6 +153,10 @@ fn asked<'a>(alloc: Global, matches: &ArgMatches<'a>) -> Result<Option<Arguments
             serve_asked(inner, revisions)
         }
         Some(("migrate", inner)) => migrate_asked(inner),
+        Some(("verify", inner)) => {
+            let revisions = revisions_asked(alloc, inner)?;
+            verify_asked(inner, revisions)
+        }
         _ => None,
     })
 }
@@ -211,6 +244,21 @@ fn migrate_asked<'a>(matches: &ArgMatches<'a>) -> Option<Arguments<'a>>
         from,
         to,
         cards,
+    }))
+}
+
+/// The verifying of a journal that the matches of its command ask for.
+fn verify_asked<'a>(matches: &ArgMatches<'a>, revisions: Vec<&'a str>) -> Option<Arguments<'a>>
+    ensures { IfSome result IsAllowed }
+{
+    let journal = matches.get_str("journal")?;
+    let table = matches.get_str("table");
+    let seal = seal_asked(matches)?;
+    Some(Arguments::Verify(Verify {
+        journal,
+        table,
+        revisions,
+        seal,
     }))
 }
 

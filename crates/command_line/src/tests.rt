@@ -1,4 +1,4 @@
-use crate::{Arguments, Migrate, Serve, arguments_of, refuse_bytes};
+use crate::{Arguments, Migrate, Seal, Serve, Verify, arguments_of, refuse_bytes};
 use clap::error::ErrorKind;
 use std::alloc::Global;
 use std::test::Fail;
@@ -151,6 +151,11 @@ fn help_names_the_program_and_fits_a_hundred_columns(rt: HostRuntime) -> Result<
             "--table <FILE> --from <FILE> --to <FILE> --cards <N>\n",
             "  bovtrila migrate --table fares.toml --from station.journal",
         ),
+        (
+            "verify",
+            "[OPTIONS] --journal <FILE> [REVISION]...\n",
+            "  bovtrila verify --journal station.journal --table fares.toml --seal",
+        ),
     ] {
         // The file that the program is started from has another name.
         let words = ["out/tap_server", command, "--help"];
@@ -279,6 +284,88 @@ fn a_migration_needs_all_its_options(rt: HostRuntime) -> Result<(), Fail> {
     let fewer = words.get(..8).ok_or("so many words")?;
     let error = arguments_of(alloc, fewer).err().ok_or("a refusal")?;
     assert_eq!(rt; error.exit_code(), 2);
+    Ok(())
+}
+
+/// A digest in digits of either case, and its bytes.
+const DIGEST: (&str, [u8; 32]) = (
+    "000102030405060708090a0b0c0d0e0f101112131415161718191A1B1C1D1E1F",
+    [
+        0, 1, 2, 3, 4, 5, 6, 7, 8, 9, 10, 11, 12, 13, 14, 15, 16, 17, 18, 19, 20, 21, 22, 23, 24,
+        25, 26, 27, 28, 29, 30, 31,
+    ],
+);
+
+/// The words of the verifying of a journal, with these behind them.
+fn verify_words<'a>(alloc: Global, more: &[&'a str]) -> Result<Vec<&'a str>, Fail> {
+    let mut words = ["bovtrila", "verify", "--journal", "a.journal"].to_vec(alloc)?;
+    words.extend_from_slice(more)?;
+    Ok(words)
+}
+
+/// The verifying that these words ask for, where they do.
+fn verification_of<'a>(alloc: Global, words: &'a [&'a str]) -> Option<Verify<'a>> {
+    match arguments_of(alloc, words) {
+        Ok(Arguments::Verify(asked)) => Some(asked),
+        _ => None,
+    }
+}
+
+#[test]
+fn a_verification_needs_a_journal_alone(rt: HostRuntime) -> Result<(), Fail> {
+    let alloc = rt.alloc();
+    let words = verify_words(alloc, &[])?;
+    let asked = verification_of(alloc, words.as_slice()).ok_or("a verification")?;
+    assert_eq!(rt; asked.journal, "a.journal");
+    assert_eq!(rt; (asked.table, asked.seal), (None, Seal::Unasked));
+    assert_eq!(rt; asked.revisions.len(), 0);
+    let words = verify_words(alloc, &["--table", "a.toml", "--seal", "b.toml", "c.toml"])?;
+    let asked = verification_of(alloc, words.as_slice()).ok_or("a verification")?;
+    assert_eq!(rt; (asked.table, asked.seal), (Some("a.toml"), Seal::Made));
+    assert_eq!(rt; asked.revisions.as_slice(), ["b.toml", "c.toml"].as_slice());
+    let error = arguments_of(alloc, &["bovtrila", "verify"])
+        .err()
+        .ok_or("a refusal")?;
+    assert_eq!(rt; error.exit_code(), 2);
+    Ok(())
+}
+
+#[test]
+fn a_journal_is_held_against_a_number_and_a_digest(rt: HostRuntime) -> Result<(), Fail> {
+    let alloc = rt.alloc();
+    let (text, digest) = DIGEST;
+    for (number, touches) in [("0", 0), ("17", 17), ("1000000", 1_000_000)] {
+        let words = verify_words(alloc, &["--sealed", number, text])?;
+        let asked = verification_of(alloc, words.as_slice()).ok_or("a verification")?;
+        assert_eq!(rt; asked.seal, Seal::Kept { touches, digest });
+    }
+    let words = verify_words(
+        alloc,
+        &["--table", "a.toml", "--sealed", "1", text, "b.toml"],
+    )?;
+    let asked = verification_of(alloc, words.as_slice()).ok_or("a verification")?;
+    assert_eq!(rt; asked.seal, Seal::Kept { touches: 1, digest });
+    assert_eq!(rt; asked.revisions.as_slice(), ["b.toml"].as_slice());
+    let refused: [&[&str]; 10] = [
+        &["--sealed"],
+        &["--sealed", "1"],
+        &["--sealed", "1000001", text],
+        &["--sealed", "+1", text],
+        &["--sealed", "-1", text],
+        &["--sealed", "x", text],
+        &["--sealed", "1", "00"],
+        &["--sealed", "1", "x"],
+        &["--seal", "--sealed", "1", text],
+        &["b.toml"],
+    ];
+    for more in refused {
+        let words = verify_words(alloc, more)?;
+        let error = arguments_of(alloc, words.as_slice())
+            .err()
+            .ok_or("a refusal")?;
+        let count = more.len();
+        assert_eq!(rt; error.exit_code(), 2, "{count} words");
+    }
     Ok(())
 }
 
