@@ -1,0 +1,5 @@
+pub mod Seal
+pub mod Touches
+pub mod Lines
+pub mod Texts
+pub mod Audit

@@ -1,0 +1,68 @@
+//! Journals that are held against fare tables.
+
+ghost use Rattle.std.specs.Prelude.{◌≡◌, [], IfSome};
+ghost use Rattle.fare_schedule.specs.Schedule.{revisions_of};
+
+use super::*;
+use fare_table::{EXAMPLE_TABLE, Fares};
+
+/// The digest of the example table's text.
+const EXAMPLE_DIGEST: [u8; 32] =
+    *b"\x17\x08\xbe\xf1\xd8\x12\x4f\x49\x75\x3d\x74\xc2\x9f\xa7\x19\x2b\
+    \x3d\xa7\x03\xa4\x24\x81\xf5\x95\x04\xb7\x6a\x41\xec\x00\x24\x28";
+
+/// The slot of a revision of gate 7 with number 6, from fare day 20095 on, but for the table's digest.
+const REVISION: [u8; 12] = *b"\xa5\x06\x00\x07\x00\x00\x00\x06\x00\x00\x00\x00";
+
+/// A schedule of the example table alone. There is none for want of memory.
+pub(super) fn example(alloc: Global) -> Option<Schedule>
+    ensures { IfSome result (λ schedule. revisions_of schedule ≡ []) }
+{
+    let first = Fares::read(alloc, EXAMPLE_TABLE).ok()?;
+    Schedule::new(alloc, first).ok()
+}
+
+/// The journal of two touches, of the example table.
+pub(super) fn of_example() -> [u8; 193] {
+    let mut bytes = FILE;
+    bytes[17..49].copy_from_slice(&EXAMPLE_DIGEST);
+    bytes
+}
+
+/// How the audit of some bytes ends that is held against the example table.
+fn ended(alloc: Global, bytes: &[u8]) -> Option<Result<(), AuditFault>> {
+    let schedule = example(alloc)?;
+    let mut written = Vec::new(alloc);
+    Some(audit_journal(alloc, Some(schedule), Seal::Unasked, bytes, &mut written))
+}
+
+#[test]
+fn a_journal_is_held_against_its_first_table(rt: HostRuntime) -> Result<(), Fail> {
+    let alloc = rt.alloc();
+    let wrong = AuditFault::Journal(JournalFault::WrongTable);
+    assert_eq!(rt; ended(alloc, &of_example()).ok_or("tables")?, Ok(()));
+    assert_eq!(rt; ended(alloc, &FILE).ok_or("tables")?, Err(wrong));
+    Ok(())
+}
+
+#[test]
+fn the_first_touch_that_no_opening_enters_is_told(rt: HostRuntime) -> Result<(), Fail> {
+    let alloc = rt.alloc();
+    let mut twice = of_example();
+    twice[135] = 1;
+    let damaged = AuditFault::Journal(JournalFault::Damaged(1));
+    assert_eq!(rt; ended(alloc, &twice).ok_or("tables")?, Err(damaged));
+    // The second touch is a revision, to the first table and then to one that isn't there.
+    let mut revised = of_example();
+    revised[128..140].copy_from_slice(&REVISION);
+    revised[140..172].copy_from_slice(&EXAMPLE_DIGEST);
+    revised[172..180].copy_from_slice(b"\x00\x00\x4e\x7f\x67\x7b\x8d\x80");
+    assert_eq!(rt; ended(alloc, &revised).ok_or("tables")?, Ok(()));
+    revised[140] = 0;
+    let missing = AuditFault::Journal(JournalFault::MissingTable(1));
+    assert_eq!(rt; ended(alloc, &revised).ok_or("tables")?, Err(missing));
+    // Where no table is named, that isn't looked at.
+    assert_eq!(rt; audited(alloc, Seal::Unasked, &revised)?.1, Ok(()));
+    assert_eq!(rt; audited(alloc, Seal::Unasked, &twice)?.1, Ok(()));
+    Ok(())
+}
