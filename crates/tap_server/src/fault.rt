@@ -3,13 +3,14 @@
 ghost use Rattle.std.specs.Prelude.{◌≡◌};
 ghost use Rattle.line_replay.specs.declared.fault.RunFault.TheVariants.{Memory};
 ghost use Rattle.tap_server.specs.declared.fault.CommandFault.TheVariants.{Journal, Migrate, Run};
-ghost use Rattle.tap_server.specs.Command.{command_fault};
+ghost use Rattle.tap_server.specs.Command.{command_fault, audit_fault};
 
 use crate::detail::Detail;
 use clap::Error as LineError;
 use clap::error::ErrorKind;
 use fare_schedule::SupplyFault;
 use fare_table::TableFault;
+use journal_audit::{AuditFault, SealFault};
 use line_replay::RunFault;
 use std::alloc::AllocError;
 use tap_journal::{JournalFault, MigrateCause};
@@ -38,6 +39,9 @@ pub enum CommandFault {
     /// The journal can't be carried over to the new file.
     #[error("fault migrate {0}")]
     Migrate(MigrateCause),
+    /// The journal isn't the one that was sealed.
+    #[error("fault seal {0}")]
+    Seal(SealFault),
     /// The address can't be listened on.
     #[error("fault listen")]
     Listen(Detail),
@@ -105,6 +109,19 @@ impl From<MigrateCause> for CommandFault {
 
     fn from(cause: MigrateCause) -> CommandFault {
         CommandFault::Migrate(cause)
+    }
+}
+
+impl From<AuditFault> for CommandFault {
+    ghost from_gives = { λ given fault. fault ≡ audit_fault given };
+
+    fn from(fault: AuditFault) -> CommandFault {
+        match fault {
+            AuditFault::Memory => CommandFault::Run(RunFault::Memory),
+            AuditFault::Write => CommandFault::Run(RunFault::Write),
+            AuditFault::Journal(fault) => CommandFault::Journal(fault),
+            AuditFault::Seal(fault) => CommandFault::Seal(fault),
+        }
     }
 }
 

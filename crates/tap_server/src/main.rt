@@ -5,6 +5,7 @@
 
 ghost use Rattle.command_line.specs.Arguments.{IsWithin};
 
+mod audit;
 mod begun;
 mod behind;
 mod check;
@@ -22,6 +23,7 @@ mod server;
 mod tables;
 mod tally;
 
+use crate::audit::verify_journal;
 use crate::fault::CommandFault;
 use crate::migrate::migrate_journal;
 use crate::notes::check_file;
@@ -73,6 +75,7 @@ fn run<
         Arguments::Check { table } => check_file(rt, table),
         Arguments::Serve(asked) => serve_gates(rt, &asked),
         Arguments::Migrate(asked) => migrate_journal(rt, &asked),
+        Arguments::Verify(asked) => verify_journal(rt, &asked),
     }
 }
 

@@ -1,0 +1,44 @@
+//! The command `verify`: a journal that is read alone, and what is told of it.
+
+ghost use Rattle.std.specs.Prelude.{◌≡◌};
+ghost use Rattle.tap_server.specs.Command.{seal_asked};
+
+use crate::fault::CommandFault;
+use crate::tables::{bytes_in, first_table, schedule_of};
+use command_line::{Seal as AskedSeal, Verify};
+use journal_audit::{Seal, Sealed, audit_journal};
+use std::io;
+use std::process::ExitCode;
+use std::rt::Files;
+
+/// Writes what the journal in a file holds, by the fare tables that are named, where they are.
+///
+/// The tables are looked at first, and then the journal's file. It is opened for reading alone, and
+/// isn't locked: a server may go on with it. It is read to its end before anything is written.
+pub(crate) fn verify_journal<R: AllocGlobal + Files + Print>(
+    rt: &R,
+    asked: &Verify<'_>,
+) -> Result<ExitCode, CommandFault> {
+    let schedule = match asked.table {
+        Some(path) => {
+            let first = first_table(rt, Some(path))?;
+            Some(schedule_of(rt, first, asked.revisions.as_slice())?)
+        }
+        None => None,
+    };
+    let bytes = bytes_in(rt, asked.journal)?;
+    let seal = seal_of(asked.seal);
+    audit_journal(rt.alloc(), schedule, seal, bytes.as_slice(), &mut io::writer(rt))?;
+    Ok(ExitCode::SUCCESS)
+}
+
+/// What an audit is asked of the seal.
+fn seal_of(asked: AskedSeal) -> Seal
+    ensures { result ≡ seal_asked asked }
+{
+    match asked {
+        AskedSeal::Unasked => Seal::Unasked,
+        AskedSeal::Made => Seal::Made,
+        AskedSeal::Kept { touches, digest } => Seal::Kept(Sealed { touches, digest }),
+    }
+}
