@@ -1,11 +1,13 @@
 //! The command `verify`: a journal that is read alone, and what is told of it.
 
-ghost use Rattle.std.specs.Prelude.{◌≡◌};
+ghost use Rattle.std.specs.Prelude.{◌≡◌, [], IfOk, IfSome};
+ghost use Rattle.fare_schedule.specs.Schedule.{revisions_of};
 ghost use Rattle.tap_server.specs.Command.{seal_asked};
 
 use crate::fault::CommandFault;
 use crate::tables::{bytes_in, first_table, schedule_of};
 use command_line::{Seal as AskedSeal, Verify};
+use fare_schedule::Schedule;
 use journal_audit::{Seal, Sealed, audit_journal};
 use std::io;
 use std::process::ExitCode;
@@ -19,17 +21,29 @@ pub(crate) fn verify_journal<R: AllocGlobal + Files + Print>(
     rt: &R,
     asked: &Verify<'_>,
 ) -> Result<ExitCode, CommandFault> {
-    let schedule = match asked.table {
-        Some(path) => {
-            let first = first_table(rt, Some(path))?;
-            Some(schedule_of(rt, first, asked.revisions.as_slice())?)
-        }
-        None => None,
-    };
+    let schedule = tables_asked(rt, asked)?;
     let bytes = bytes_in(rt, asked.journal)?;
     let seal = seal_of(asked.seal);
-    audit_journal(rt.alloc(), schedule, seal, bytes.as_slice(), &mut io::writer(rt))?;
+    let mut writer = io::writer(rt);
+    audit_journal(rt.alloc(), schedule, seal, bytes.as_slice(), &mut writer)?;
     Ok(ExitCode::SUCCESS)
+}
+
+/// The first table with the further ones, where tables are named.
+fn tables_asked<R: AllocGlobal + Files>(
+    rt: &R,
+    asked: &Verify<'_>,
+) -> Result<Option<Schedule>, CommandFault>
+    ensures { IfOk result (λ named. IfSome named (λ schedule. revisions_of schedule ≡ [])) }
+{
+    match asked.table {
+        Some(path) => {
+            let first = first_table(rt, Some(path))?;
+            let schedule = schedule_of(rt, first, asked.revisions.as_slice())?;
+            Ok(Some(schedule))
+        }
+        None => Ok(None),
+    }
 }
 
 /// What an audit is asked of the seal.
