@@ -29,6 +29,17 @@ pub(super) fn of_example() -> [u8; 193] {
     bytes
 }
 
+/// The bytes with a piece of them written over, from a place on.
+fn over(bytes: [u8; 193], at: usize, piece: &[u8]) -> [u8; 193] {
+    let mut bytes = bytes;
+    for (place, byte) in piece.iter().enumerate() {
+        if let Some(there) = bytes.get_mut(at.saturating_add(place)) {
+            *there = *byte;
+        }
+    }
+    bytes
+}
+
 /// How the audit of some bytes ends that is held against the example table.
 fn ended(alloc: Global, bytes: &[u8]) -> Option<Result<(), AuditFault>> {
     let schedule = example(alloc)?;
@@ -48,17 +59,14 @@ fn a_journal_is_held_against_its_first_table(rt: HostRuntime) -> Result<(), Fail
 #[test]
 fn the_first_touch_that_no_opening_enters_is_told(rt: HostRuntime) -> Result<(), Fail> {
     let alloc = rt.alloc();
-    let mut twice = of_example();
-    twice[135] = 1;
+    let twice = over(of_example(), 135, &[1]);
     let damaged = AuditFault::Journal(JournalFault::Damaged(1));
     assert_eq!(rt; ended(alloc, &twice).ok_or("tables")?, Err(damaged));
     // The second touch is a revision, to the first table and then to one that isn't there.
-    let mut revised = of_example();
-    revised[128..140].copy_from_slice(&REVISION);
-    revised[140..172].copy_from_slice(&EXAMPLE_DIGEST);
-    revised[172..180].copy_from_slice(b"\x00\x00\x4e\x7f\x67\x7b\x8d\x80");
+    let digest = over(over(of_example(), 128, &REVISION), 140, &EXAMPLE_DIGEST);
+    let revised = over(digest, 172, b"\x00\x00\x4e\x7f\x67\x7b\x8d\x80");
     assert_eq!(rt; ended(alloc, &revised).ok_or("tables")?, Ok(()));
-    revised[140] = 0;
+    let revised = over(revised, 140, &[0]);
     let missing = AuditFault::Journal(JournalFault::MissingTable(1));
     assert_eq!(rt; ended(alloc, &revised).ok_or("tables")?, Err(missing));
     // Where no table is named, that isn't looked at.
