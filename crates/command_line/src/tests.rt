@@ -296,13 +296,6 @@ const DIGEST: (&str, [u8; 32]) = (
     ],
 );
 
-/// The words of the verifying of a journal, with these behind them.
-fn verify_words<'a>(alloc: Global, more: &[&'a str]) -> Result<Vec<&'a str>, Fail> {
-    let mut words = ["bovtrila", "verify", "--journal", "a.journal"].to_vec(alloc)?;
-    words.extend_from_slice(more)?;
-    Ok(words)
-}
-
 /// The verifying that these words ask for, where they do.
 fn verification_of<'a>(alloc: Global, words: &'a [&'a str]) -> Option<Verify<'a>> {
     match arguments_of(alloc, words) {
@@ -314,13 +307,23 @@ fn verification_of<'a>(alloc: Global, words: &'a [&'a str]) -> Option<Verify<'a>
 #[test]
 fn a_verification_needs_a_journal_alone(rt: HostRuntime) -> Result<(), Fail> {
     let alloc = rt.alloc();
-    let words = verify_words(alloc, &[])?;
-    let asked = verification_of(alloc, words.as_slice()).ok_or("a verification")?;
+    let words = ["bovtrila", "verify", "--journal", "a.journal"];
+    let asked = verification_of(alloc, &words).ok_or("a verification")?;
     assert_eq!(rt; asked.journal, "a.journal");
     assert_eq!(rt; (asked.table, asked.seal), (None, Seal::Unasked));
     assert_eq!(rt; asked.revisions.len(), 0);
-    let words = verify_words(alloc, &["--table", "a.toml", "--seal", "b.toml", "c.toml"])?;
-    let asked = verification_of(alloc, words.as_slice()).ok_or("a verification")?;
+    let words = [
+        "bovtrila",
+        "verify",
+        "--journal",
+        "a.journal",
+        "--table",
+        "a.toml",
+        "--seal",
+        "b.toml",
+        "c.toml",
+    ];
+    let asked = verification_of(alloc, &words).ok_or("a verification")?;
     assert_eq!(rt; (asked.table, asked.seal), (Some("a.toml"), Seal::Made));
     assert_eq!(rt; asked.revisions.as_slice(), ["b.toml", "c.toml"].as_slice());
     let error = arguments_of(alloc, &["bovtrila", "verify"])
@@ -330,41 +333,87 @@ fn a_verification_needs_a_journal_alone(rt: HostRuntime) -> Result<(), Fail> {
     Ok(())
 }
 
+/// The words of a verifying that holds a journal against a seal.
+fn sealed_words<'a>(number: &'a str, digest: &'a str) -> [&'a str; 7] {
+    [
+        "bovtrila",
+        "verify",
+        "--journal",
+        "a.journal",
+        "--sealed",
+        number,
+        digest,
+    ]
+}
+
 #[test]
 fn a_journal_is_held_against_a_number_and_a_digest(rt: HostRuntime) -> Result<(), Fail> {
     let alloc = rt.alloc();
     let (text, digest) = DIGEST;
     for (number, touches) in [("0", 0), ("17", 17), ("1000000", 1_000_000)] {
-        let words = verify_words(alloc, &["--sealed", number, text])?;
-        let asked = verification_of(alloc, words.as_slice()).ok_or("a verification")?;
+        let words = sealed_words(number, text);
+        let asked = verification_of(alloc, &words).ok_or("a verification")?;
         assert_eq!(rt; asked.seal, Seal::Kept { touches, digest });
     }
-    let words = verify_words(
-        alloc,
-        &["--table", "a.toml", "--sealed", "1", text, "b.toml"],
-    )?;
-    let asked = verification_of(alloc, words.as_slice()).ok_or("a verification")?;
+    for (number, digest) in [
+        ("1000001", text),
+        ("+1", text),
+        ("-1", text),
+        ("x", text),
+        ("1", "00"),
+        ("1", "x"),
+    ] {
+        let words = sealed_words(number, digest);
+        let error = arguments_of(alloc, &words).err().ok_or("a refusal")?;
+        assert_eq!(rt; error.exit_code(), 2, "{number} {digest}");
+    }
+    Ok(())
+}
+
+#[test]
+fn a_seal_is_asked_for_once_and_whole(rt: HostRuntime) -> Result<(), Fail> {
+    let alloc = rt.alloc();
+    let (text, digest) = DIGEST;
+    let words = [
+        "bovtrila",
+        "verify",
+        "--journal",
+        "a.journal",
+        "--table",
+        "a.toml",
+        "--sealed",
+        "1",
+        text,
+        "b.toml",
+    ];
+    let asked = verification_of(alloc, &words).ok_or("a verification")?;
     assert_eq!(rt; asked.seal, Seal::Kept { touches: 1, digest });
     assert_eq!(rt; asked.revisions.as_slice(), ["b.toml"].as_slice());
-    let refused: [&[&str]; 10] = [
-        &["--sealed"],
-        &["--sealed", "1"],
-        &["--sealed", "1000001", text],
-        &["--sealed", "+1", text],
-        &["--sealed", "-1", text],
-        &["--sealed", "x", text],
-        &["--sealed", "1", "00"],
-        &["--sealed", "1", "x"],
-        &["--seal", "--sealed", "1", text],
-        &["b.toml"],
+    let refused: [&[&str]; 4] = [
+        &["bovtrila", "verify", "--journal", "a.journal", "--sealed"],
+        &[
+            "bovtrila",
+            "verify",
+            "--journal",
+            "a.journal",
+            "--sealed",
+            "1",
+        ],
+        &[
+            "bovtrila",
+            "verify",
+            "--journal",
+            "a.journal",
+            "--seal",
+            "--sealed",
+            "1",
+            text,
+        ],
+        &["bovtrila", "verify", "--journal", "a.journal", "b.toml"],
     ];
-    for more in refused {
-        let words = verify_words(alloc, more)?;
-        let error = arguments_of(alloc, words.as_slice())
-            .err()
-            .ok_or("a refusal")?;
-        let count = more.len();
-        assert_eq!(rt; error.exit_code(), 2, "{count} words");
+    for words in refused {
+        let error = arguments_of(alloc, words).err().ok_or("a refusal")?;
+        assert_eq!(rt; error.exit_code(), 2);
     }
     Ok(())
 }
