@@ -13,6 +13,7 @@ mod touches;
 pub use audit::audit_journal;
 pub use fault::{AuditFault, SealFault};
 pub use seal::{Seal, Sealed};
+pub use touches::enter_touches;
 
 #[cfg(test)]
 mod tests;
