@@ -1,0 +1,4 @@
+mod Examples
+pub mod CalendarLemmas
+pub mod TellingLemmas
+pub mod HistoryLemmas

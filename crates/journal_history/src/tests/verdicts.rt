@@ -1,0 +1,203 @@
+//! Each verdict by its name, revisions, and the touches of a card and of a day.
+
+use super::*;
+
+/// A revision of gate 7 from fare day 20095, 2025-01-07, to the example table itself, and one more from
+/// the same day.
+const REVISIONS: [&str; 2] = [
+    "00330600070000000900000009\
+    1708bef1d8124f49753d74c29fa7192b3da703a42481f59504b76a41ec00242800004e7f677b8d80",
+    "00330600070000000a00000009\
+    1708bef1d8124f49753d74c29fa7192b3da703a42481f59504b76a41ec00242800004e7f677b8d80",
+];
+
+/// Their rows behind the four first touches.
+const REVISED: [&str; 2] = [
+    "4,2025-01-06T08:00:00Z,2025-01-07,7,9,9,revision,\
+    1708bef1d8124f49753d74c29fa7192b3da703a42481f59504b76a41ec002428,,Revised,0,0",
+    "5,2025-01-06T08:00:00Z,2025-01-07,7,10,9,revision,\
+    1708bef1d8124f49753d74c29fa7192b3da703a42481f59504b76a41ec002428,,BadDay,0,0",
+];
+
+/// Touches of the cards 1 and 2 on 2025-01-06, each with the end of its row. By docs/FARES.md, "Worked
+/// examples": issue, top up 9001, 50000, 50001, 9000, 1, issue again, in at 9; on another card issue, top
+/// up 189, 08:00 in at 2, top up 1, 08:00 in at 2, 07:59 out at 2; and cards that weren't issued.
+const TOUCHES: [(&str, &str); 14] = [
+    ("000f0400010000000100000002677b8b28", ",issue,,,Issued,0,0"),
+    (
+        "0013030001000000020000000200002329677b8b28",
+        ",top-up,,9001,OverLimit,0,0",
+    ),
+    (
+        "001303000100000003000000020000c351677b8b28",
+        ",top-up,,50001,BadAmount,0,0",
+    ),
+    (
+        "0013030001000000040000000200002328677b8b28",
+        ",top-up,,9000,ToppedUp,9000,9000",
+    ),
+    (
+        "000f0400010000000500000002677b8b28",
+        ",issue,,,AlreadyIssued,0,9000",
+    ),
+    (
+        "001101000100000006000000020009677b8d80",
+        ",in,9,,UnknownStation,0,9000",
+    ),
+    ("000f0400010000000700000001677b8b28", ",issue,,,Issued,0,0"),
+    (
+        "00130300010000000800000001000000bd677b8b28",
+        ",top-up,,189,ToppedUp,189,189",
+    ),
+    (
+        "001101000100000009000000010002677b8d80",
+        ",in,2,,LowBalance,0,189",
+    ),
+    (
+        "00130300010000000a0000000100000001677b8b28",
+        ",top-up,,1,ToppedUp,1,190",
+    ),
+    (
+        "00110100010000000b000000010002677b8d80",
+        ",in,2,,Entered,-900,-710",
+    ),
+    (
+        "00110200010000000c000000010002677b8d44",
+        ",out,2,,Backwards,0,-710",
+    ),
+    (
+        "00110100010000000d000000030009677b8d80",
+        ",in,9,,UnknownCard,0,0",
+    ),
+    (
+        "00110200010000000e000000040001677b8d80",
+        ",out,1,,UnknownCard,0,0",
+    ),
+];
+
+/// A card with 2000 pence by docs/FARES.md, "Worked examples": out 1 at 08:00 with no touch in, in 4 at
+/// 08:05; the second in 2 at 08:00 and again at 08:10, out 1 at 08:30; the third in 2 at 08:00, out 1 at
+/// 08:25, in 4 at 08:33; the fourth in 2 at 08:00 and out 1 at 09:30:01.
+const JOURNEYS: [(&str, &str); 18] = [
+    ("000f0400010000000100000001677b8b28", ",Issued,0,0"),
+    (
+        "00130300010000000200000001000007d0677b8b28",
+        ",ToppedUp,2000,2000",
+    ),
+    (
+        "001102000100000003000000010001677b8d80",
+        ",ExitedUnstarted,-900,1100",
+    ),
+    (
+        "001101000100000004000000010004677b8eac",
+        ",Entered,-900,200",
+    ),
+    ("000f0400010000000500000002677b8b28", ",Issued,0,0"),
+    (
+        "00130300010000000600000002000007d0677b8b28",
+        ",ToppedUp,2000,2000",
+    ),
+    (
+        "001101000100000007000000020002677b8d80",
+        ",Entered,-900,1100",
+    ),
+    (
+        "001101000100000008000000020002677b8fd8",
+        ",EnteredOverOpen,-900,200",
+    ),
+    ("001102000100000009000000020001677b9488", ",Exited,550,750"),
+    ("000f0400010000000a00000003677b8b28", ",Issued,0,0"),
+    (
+        "00130300010000000b00000003000007d0677b8b28",
+        ",ToppedUp,2000,2000",
+    ),
+    (
+        "00110100010000000c000000030002677b8d80",
+        ",Entered,-900,1100",
+    ),
+    ("00110200010000000d000000030001677b935c", ",Exited,550,1650"),
+    (
+        "00110100010000000e000000030004677b953c",
+        ",EnteredContinued,-900,750",
+    ),
+    ("000f0400010000000f00000004677b8b28", ",Issued,0,0"),
+    (
+        "00130300010000001000000004000007d0677b8b28",
+        ",ToppedUp,2000,2000",
+    ),
+    (
+        "001101000100000011000000040002677b8d80",
+        ",Entered,-900,1100",
+    ),
+    (
+        "001102000100000012000000040001677ba299",
+        ",ExitedLate,-700,400",
+    ),
+];
+
+/// The journal's rows that end behind one another in these texts, behind the heading.
+fn are_told(alloc: Global, touches: &[(&str, &str)]) -> Result<bool, Fail> {
+    let mut frames = Vec::new(alloc);
+    for (frame, _) in touches {
+        frames.push(*frame)?;
+    }
+    let bytes = journal(alloc, false, &frames).ok_or("a journal")?;
+    let (text, ended) = told(alloc, ALL, HistoryFormat::Csv, &bytes)?;
+    ended?;
+    let (_, behind) = text.split_once("\r\n").ok_or("a heading")?;
+    let mut rest = behind;
+    for (_, want) in touches {
+        let (row, behind) = rest.split_once("\r\n").ok_or("a row")?;
+        if !row.ends_with(*want) {
+            return Ok(false);
+        }
+        rest = behind;
+    }
+    Ok(rest.is_empty())
+}
+
+#[test]
+fn each_verdict_has_its_name(rt: HostRuntime) -> Result<(), Fail> {
+    let alloc = rt.alloc();
+    assert!(rt; are_told(alloc, &TOUCHES)?);
+    assert!(rt; are_told(alloc, &JOURNEYS)?);
+    Ok(())
+}
+
+#[test]
+fn a_revision_stands_under_its_own_day(rt: HostRuntime) -> Result<(), Fail> {
+    let alloc = rt.alloc();
+    let mut frames = FRAMES.to_vec(alloc)?;
+    frames.extend_from_slice(&REVISIONS)?;
+    let bytes = journal(alloc, false, &frames).ok_or("a journal")?;
+    let (text, ended) = told(alloc, ALL, HistoryFormat::Csv, &bytes)?;
+    assert_eq!(rt; ended, Ok(()));
+    let (rows, revised) = (
+        text_of(alloc, &ROWS, "\r\n")?,
+        text_of(alloc, &REVISED, "\r\n")?,
+    );
+    assert_eq!(rt; text, format!(in alloc; "{HEADING}\r\n{rows}{revised}")?);
+    Ok(())
+}
+
+#[test]
+fn the_touches_of_a_card_and_of_a_day_are_told(rt: HostRuntime) -> Result<(), Fail> {
+    let alloc = rt.alloc();
+    let mut frames = FRAMES.to_vec(alloc)?;
+    frames.extend_from_slice(&REVISIONS)?;
+    let bytes = journal(alloc, false, &frames).ok_or("a journal")?;
+    let rows: [(Option<u32>, Option<i32>, &[&str]); 6] = [
+        (Some(1), None, &FRAMES),
+        (Some(9), None, &[]),
+        (None, Some(20_094), &FRAMES),
+        (None, Some(20_095), &REVISIONS),
+        (Some(1), Some(20_094), &FRAMES),
+        (Some(1), Some(20_095), &[]),
+    ];
+    for (card, day, want) in rows {
+        let (text, ended) = told(alloc, Wanted { card, day }, HistoryFormat::Frames, &bytes)?;
+        assert_eq!(rt; ended, Ok(()));
+        assert_eq!(rt; text, text_of(alloc, want, "\n")?);
+    }
+    Ok(())
+}
