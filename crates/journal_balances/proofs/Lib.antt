@@ -1,0 +1,4 @@
+mod Examples
+pub mod SumLemmas
+pub mod RowLemmas
+pub mod BalancesLemmas
