@@ -4,6 +4,8 @@ use Rattle.command_line.specs.declared.arguments.Arguments.{Arguments}
 use Rattle.command_line.specs.declared.arguments.Arguments.TheVariants as asked
 use Rattle.command_line.specs.declared.arguments.Serve.{Serve}
 use Rattle.command_line.specs.declared.arguments.Migrate.{Migrate}
+use Rattle.command_line.specs.declared.balances.Balances.{Balances}
+use Rattle.command_line.specs.declared.history.History.{History}
 use Rattle.command_line.specs.declared.seal.Seal.{Seal}
 use Rattle.command_line.specs.declared.seal.Seal.TheVariants.{Unasked, Made, Kept}
 
@@ -27,6 +29,14 @@ IsSealAllowed Unasked = Unit {0}
 IsSealAllowed Made = Unit {0}
 IsSealAllowed (Kept touches digest) = (touches ≤ 1_000_000) × (length digest ≡ 32)
 
+-- a card has one of 100,000 numbers
+abbrev pub IsHistoryAllowed : History → Type 0
+IsHistoryAllowed history = IfSome history.card (IsWithin 100_000)
+
+-- balances are told after at most 1,000,000 touches
+abbrev pub IsBalancesAllowed : Balances → Type 0
+IsBalancesAllowed balances = IfSome balances.at (λ touches. touches ≤ 1_000_000)
+
 -- so it is of each command
 abbrev pub IsAllowed : Arguments → Type 0
 IsAllowed (asked.Replay table cards revisions) = IsWithin 100_000 cards
@@ -34,3 +44,5 @@ IsAllowed (asked.Check table) = Unit {0}
 IsAllowed (asked.Serve serve) = IsServeAllowed serve
 IsAllowed (asked.Migrate migrate) = IsWithin 100_000 migrate.cards
 IsAllowed (asked.Verify verify) = IsSealAllowed verify.seal
+IsAllowed (asked.History history) = IsHistoryAllowed history
+IsAllowed (asked.Balances balances) = IsBalancesAllowed balances

@@ -1,11 +1,13 @@
 //! What the words of a command line ask for.
 
-ghost use Rattle.std.specs.Prelude.{◌≡◌, IfOk, IfSome};
+ghost use Rattle.std.specs.Prelude.{◌≡◌, ◌≤◌, IfOk, IfSome};
 ghost use Rattle.clap.specs.Values.{kind_of};
 ghost use Rattle.clap.specs.declared.error.kind.ErrorKind.TheVariants.{InvalidValue};
 ghost use Rattle.command_line.specs.Arguments.{IsAllowed, IsServeAllowed, IsWithin};
 
+use crate::balances::{Balances, balances_asked};
 use crate::commands::command;
+use crate::history::{History, history_asked};
 use crate::seal::{Seal, seal_asked};
 use clap::error::ErrorKind;
 use clap::{ArgMatches, Error};
@@ -43,6 +45,10 @@ pub enum Arguments<'a> {
     Migrate(Migrate<'a>),
     /// Verify a journal, from its file alone.
     Verify(Verify<'a>),
+    /// Write the history of a journal, from its file alone.
+    History(History<'a>),
+    /// Write the balances of a journal's cards, from its file alone.
+    Balances(Balances<'a>),
 }
 
 /// What a server is asked for.
@@ -103,6 +109,14 @@ const NOT_DECIMAL: &str = "a number is written in the digits 0 to 9 alone";
 const NOT_A_SEAL: &str =
     "a seal is a number from 0 to 1000000 in the digits 0 to 9, and 64 hexadecimal digits";
 
+/// What stands for a card's number that has a sign, or a day that is no date.
+const NOT_A_CARD_OR_DAY: &str =
+    "a card's number is written in the digits 0 to 9 alone, and a day is a date, as 2025-01-07";
+
+/// What stands for a number of touches that is none.
+const NOT_A_COUNT: &str =
+    "a number of touches is from 0 to 1000000, and is written in the digits 0 to 9 alone";
+
 /// The text of Rust's `clap` for this.
 const NOT_UTF8: &str = "invalid UTF-8 was detected in one or more arguments";
 
@@ -110,7 +124,7 @@ const NOT_UTF8: &str = "invalid UTF-8 was detected in one or more arguments";
 ///
 /// The error says that help or the version was asked for, or what is wrong: no command or an
 /// unknown one, a number that isn't within its limits or isn't written in decimal digits, a seal
-/// that is none, or no file. Its text and its status are `clap`'s.
+/// or a day that is none, or no file. Its text and its status are `clap`'s.
 pub fn arguments_of<'a>(alloc: Global, words: &'a [&'a str]) -> Result<Arguments<'a>, Error>
     ensures { IfOk result IsAllowed }
 {
@@ -126,6 +140,8 @@ pub fn arguments_of<'a>(alloc: Global, words: &'a [&'a str]) -> Result<Arguments
 fn refused_by(matches: &ArgMatches<'_>) -> &'static str {
     match matches.subcommand() {
         Some(("verify", _)) => NOT_A_SEAL,
+        Some(("history", _)) => NOT_A_CARD_OR_DAY,
+        Some(("balances", _)) => NOT_A_COUNT,
         _ => NOT_DECIMAL,
     }
 }
@@ -137,8 +153,8 @@ pub fn refuse_bytes(alloc: Global) -> Result<Error, Error>
     Ok(command(alloc)?.error(ErrorKind::InvalidValue, NOT_UTF8)?)
 }
 
-/// What the matches ask for. `None` where a number isn't written in decimal digits, or where a seal
-/// is none.
+/// What the matches ask for. `None` where a number isn't written in decimal digits, or where a seal or
+/// a day is none.
 fn asked<'a>(alloc: Global, matches: &ArgMatches<'a>) -> Result<Option<Arguments<'a>>, AllocError>
     ensures { IfOk result (λ asked. IfSome asked IsAllowed) }
 {
@@ -156,6 +172,14 @@ fn asked<'a>(alloc: Global, matches: &ArgMatches<'a>) -> Result<Option<Arguments
         Some(("verify", inner)) => {
             let revisions = revisions_asked(alloc, inner)?;
             verify_asked(inner, revisions)
+        }
+        Some(("history", inner)) => {
+            let revisions = revisions_asked(alloc, inner)?;
+            history_of(inner, revisions)
+        }
+        Some(("balances", inner)) => {
+            let revisions = revisions_asked(alloc, inner)?;
+            balances_of(inner, revisions)
         }
         _ => None,
     })
@@ -222,7 +246,7 @@ fn serve_asked<'a>(matches: &ArgMatches<'a>, revisions: Vec<&'a str>) -> Option<
 
 /// The number that an option has which may be left out. `None` where it is given and isn't from 1 to
 /// this limit.
-fn number_given(matches: &ArgMatches<'_>, name: &str, limit: u32) -> Option<Option<u32>>
+pub(crate) fn number_given(matches: &ArgMatches<'_>, name: &str, limit: u32) -> Option<Option<u32>>
     ensures { IfSome result (λ given. IfSome given (IsWithin limit)) }
 {
     match matches.get_str(name) {
@@ -262,6 +286,20 @@ fn verify_asked<'a>(matches: &ArgMatches<'a>, revisions: Vec<&'a str>) -> Option
     }))
 }
 
+/// The history that the matches of its command ask for.
+fn history_of<'a>(matches: &ArgMatches<'a>, revisions: Vec<&'a str>) -> Option<Arguments<'a>>
+    ensures { IfSome result IsAllowed }
+{
+    Some(Arguments::History(history_asked(matches, revisions)?))
+}
+
+/// The balances that the matches of their command ask for.
+fn balances_of<'a>(matches: &ArgMatches<'a>, revisions: Vec<&'a str>) -> Option<Arguments<'a>>
+    ensures { IfSome result IsAllowed }
+{
+    Some(Arguments::Balances(balances_asked(matches, revisions)?))
+}
+
 /// The number that an option has. `None` where it isn't from 1 to this limit, or isn't written in
 /// decimal digits alone: a parser of numbers takes a sign as well.
 fn number_asked(matches: &ArgMatches<'_>, name: &str, limit: u32) -> Option<u32>
@@ -272,6 +310,20 @@ fn number_asked(matches: &ArgMatches<'_>, name: &str, limit: u32) -> Option<u32>
     let is_decimal = text.bytes().all(|byte| byte.is_ascii_digit());
     if is_decimal && 0 < number && number <= limit {
         Some(number)
+    } else {
+        None
+    }
+}
+
+/// The number of touches that a text is, in decimal digits alone: a parser of numbers takes a sign
+/// as well. `None` where it is above what a journal has room for.
+pub(crate) fn count_in(text: &str) -> Option<u32>
+    ensures { IfSome result (λ touches. touches ≤ CAPACITY_LIMIT) }
+{
+    let touches = text.parse::<u32>().ok()?;
+    let is_decimal = text.bytes().all(|byte| byte.is_ascii_digit());
+    if is_decimal && touches <= CAPACITY_LIMIT {
+        Some(touches)
     } else {
         None
     }

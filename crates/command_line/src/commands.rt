@@ -1,5 +1,9 @@
-//! The program's commands with their options, as `clap` reads them and prints their help.
+//! The program's commands with their options, as `clap` reads them and prints their help. Those that
+//! read a journal alone stand in `audits`.
 
+mod audits;
+
+use self::audits::{balances_command, history_command, verify_command};
 use crate::arguments::{CAPACITY_LIMIT, CARDS_LIMIT, CONNECTIONS_LIMIT, IDLE_LIMIT, LINES_LIMIT};
 use clap::{Arg, ArgAction, Command, Error};
 use std::alloc::{AllocError, Global};
@@ -70,21 +74,6 @@ The old journal is read alone, and stays as it is.
 Statuses: 0 the new journal is whole, 1 a fault (standard error has its line),
 2 a wrong command line";
 
-/// What `verify` does.
-const VERIFY_ABOUT: &str = "Says whether a file is a sound journal, or what is wrong with it";
-
-/// How `verify` is called, and how it ends.
-const VERIFY_EXAMPLE: &str = "Example:
-  bovtrila verify --journal station.journal
-
-Example, with the tables that the journal names, and a seal of its touches:
-  bovtrila verify --journal station.journal --table fares.toml --seal fares-2026.toml
-
-The journal is read alone, and stays as it is. A server may go on with it.
-
-Statuses: 0 the journal is sound, 1 a fault (standard error has its line),
-2 a wrong command line";
-
 /// An option whose value is a text.
 struct TextOption {
     name: &'static str,
@@ -129,30 +118,6 @@ const MIGRATE_TEXTS: [TextOption; 3] = [
 else it has to be empty",
     },
 ];
-
-/// The journal that is verified.
-const VERIFIED: TextOption = TextOption {
-    name: "journal",
-    value: "FILE",
-    help: "The journal's file, of either format",
-};
-
-/// The first table that a journal is held against.
-const HELD_AGAINST: &str = "The file of the first fare table that the journal was made with;
-without it no table is looked at";
-
-/// The tables that a journal's revisions name.
-const NAMED_HELP: &str = "Files of further fare tables: all that the journal names";
-
-/// What makes a seal.
-const SEAL_HELP: &str = "Writes a seal of the journal's touches: their number and a digest";
-
-/// What a seal is, as it is written.
-const SEAL_VALUES: [&str; 2] = ["N", "DIGEST"];
-
-/// What holds a journal against a seal.
-const SEALED_HELP: &str = "Says whether the journal's first N touches are still those of a seal:
-N from 0 to 1000000, and 64 hexadecimal digits";
 
 /// How many cards a journal was made with.
 const MADE_WITH: NumberOption = NumberOption {
@@ -224,7 +189,9 @@ pub(crate) fn command<'a>(alloc: Global) -> Result<Command<'a>, Error> {
             .subcommand(check_command(alloc)?)?
             .subcommand(serve_command(alloc)?)?
             .subcommand(migrate_command(alloc)?)?
-            .subcommand(verify_command(alloc)?)?,
+            .subcommand(verify_command(alloc)?)?
+            .subcommand(history_command(alloc)?)?
+            .subcommand(balances_command(alloc)?)?,
     )
 }
 
@@ -274,26 +241,6 @@ fn migrate_command<'a>(alloc: Global) -> Result<Command<'a>, Error> {
         command = with_text(alloc, command, text)?;
     }
     Ok(with_number(alloc, command, &MADE_WITH)?)
-}
-
-/// The command `verify`.
-fn verify_command<'a>(alloc: Global) -> Result<Command<'a>, Error> {
-    let table = option(alloc, "table", "FILE").help(HELD_AGAINST);
-    let seal = Arg::new(alloc, "seal")
-        .long("seal")
-        .action(ArgAction::SetTrue)
-        .help(SEAL_HELP)
-        .conflicts_with("sealed")?;
-    let sealed = Arg::new(alloc, "sealed")
-        .long("sealed")
-        .num_args(2)
-        .value_names(&SEAL_VALUES)
-        .action(ArgAction::Set)
-        .help(SEALED_HELP);
-    let named = revisions(alloc).help(NAMED_HELP).requires_arg("table")?;
-    let command = titled(alloc, "verify", VERIFY_ABOUT, VERIFY_EXAMPLE);
-    let command = with_text(alloc, command, &VERIFIED)?.arg(table)?;
-    Ok(command.arg(seal)?.arg(sealed)?.arg(named)?)
 }
 
 /// A command with what it does and how it is called.

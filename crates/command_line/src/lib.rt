@@ -1,13 +1,17 @@
 //! The command line of the program: what its words ask for, with each number within its limits.
 //!
-//! `arguments_of` carries it. It stands on `clap` and `hex` alone.
+//! `arguments_of` carries it. It stands on `clap` and `hex`, and on `money_time` for a date.
 #![tactic(auto)]
 
 mod arguments;
+mod balances;
 mod commands;
+mod history;
 mod seal;
 
 pub use arguments::{Arguments, Migrate, Serve, Verify, arguments_of, refuse_bytes};
+pub use balances::Balances;
+pub use history::{History, HistoryFormat};
 pub use seal::Seal;
 
 #[cfg(test)]

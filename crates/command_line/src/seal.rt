@@ -1,15 +1,14 @@
 //! The seal of a journal that the words of a command line ask for.
 
-ghost use Rattle.std.specs.Prelude.{◌≡◌, ◌≤◌, IfSome, Ok};
+ghost use Rattle.std.specs.Prelude.{◌≡◌, IfSome, Ok};
 ghost use Rattle.hex.specs.Hex.{decode_sized};
-ghost use Rattle.command_line.specs.declared.seal.TheConstants.{SEALED_LIMIT, SEAL_SIZE};
+ghost use Rattle.command_line.specs.declared.seal.TheConstants.{SEAL_SIZE};
 ghost use Rattle.command_line.specs.Arguments.{IsSealAllowed};
 
+use crate::arguments::count_in;
 use clap::ArgMatches;
 use hex::FromHex;
 
-/// The most touches that a seal is of.
-pub const SEALED_LIMIT: u32 = 1_000_000;
 /// How many bytes the digest of a seal has.
 pub const SEAL_SIZE: usize = 32;
 
@@ -46,20 +45,6 @@ fn kept_seal(touches: &str, digest: &str) -> Option<Seal>
     let touches = count_in(touches)?;
     let digest = digest_in(digest)?;
     Some(Seal::Kept { touches, digest })
-}
-
-/// The number of touches that a text is, in decimal digits alone: a parser of numbers takes a sign
-/// as well.
-fn count_in(text: &str) -> Option<u32>
-    ensures { IfSome result (λ touches. touches ≤ SEALED_LIMIT) }
-{
-    let touches = text.parse::<u32>().ok()?;
-    let is_decimal = text.bytes().all(|byte| byte.is_ascii_digit());
-    if is_decimal && touches <= SEALED_LIMIT {
-        Some(touches)
-    } else {
-        None
-    }
 }
 
 /// The digest that a text of hexadecimal digits is, in either case.

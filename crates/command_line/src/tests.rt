@@ -1,3 +1,5 @@
+mod journals;
+
 use crate::{Arguments, Migrate, Seal, Serve, Verify, arguments_of, refuse_bytes};
 use clap::error::ErrorKind;
 use std::alloc::Global;
@@ -155,6 +157,16 @@ fn help_names_the_program_and_fits_a_hundred_columns(rt: HostRuntime) -> Result<
             "verify",
             "[OPTIONS] --journal <FILE> [REVISION]...\n",
             "  bovtrila verify --journal station.journal --table fares.toml --seal",
+        ),
+        (
+            "history",
+            "[OPTIONS] --table <FILE> --journal <FILE> [REVISION]...\n",
+            "  bovtrila history --table fares.toml --journal station.journal",
+        ),
+        (
+            "balances",
+            "[OPTIONS] --table <FILE> --journal <FILE> [REVISION]...\n",
+            "  bovtrila balances --table fares.toml --journal station.journal --at 5000",
         ),
     ] {
         // The file that the program is started from has another name.

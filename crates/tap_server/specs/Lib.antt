@@ -4,6 +4,7 @@ pub mod Report
 pub mod Clerk
 pub mod Post
 pub mod Command
+pub mod Journals
 pub mod Check
 pub mod Detail
 pub mod Refusal

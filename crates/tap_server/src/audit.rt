@@ -5,7 +5,7 @@ ghost use Rattle.fare_schedule.specs.Schedule.{revisions_of};
 ghost use Rattle.tap_server.specs.Command.{seal_asked};
 
 use crate::fault::CommandFault;
-use crate::tables::{bytes_in, first_table, schedule_of};
+use crate::tables::{bytes_in, tables_in};
 use command_line::{Seal as AskedSeal, Verify};
 use fare_schedule::Schedule;
 use journal_audit::{Seal, Sealed, audit_journal};
@@ -38,8 +38,7 @@ fn tables_asked<R: AllocGlobal + Files>(
 {
     match asked.table {
         Some(path) => {
-            let first = first_table(rt, Some(path))?;
-            let schedule = schedule_of(rt, first, asked.revisions.as_slice())?;
+            let schedule = tables_in(rt, path, asked.revisions.as_slice())?;
             Ok(Some(schedule))
         }
         None => Ok(None),

@@ -4,6 +4,7 @@ ghost use Rattle.std.specs.Prelude.{◌≡◌};
 ghost use Rattle.line_replay.specs.declared.fault.RunFault.TheVariants.{Memory};
 ghost use Rattle.tap_server.specs.declared.fault.CommandFault.TheVariants.{Journal, Migrate, Run};
 ghost use Rattle.tap_server.specs.Command.{command_fault, audit_fault};
+ghost use Rattle.tap_server.specs.Journals.{history_fault, balances_fault};
 
 use crate::detail::Detail;
 use clap::Error as LineError;
@@ -11,6 +12,8 @@ use clap::error::ErrorKind;
 use fare_schedule::SupplyFault;
 use fare_table::TableFault;
 use journal_audit::{AuditFault, SealFault};
+use journal_balances::BalancesFault;
+use journal_history::HistoryFault;
 use line_replay::RunFault;
 use std::alloc::AllocError;
 use tap_journal::{JournalFault, MigrateCause};
@@ -42,6 +45,13 @@ pub enum CommandFault {
     /// The journal isn't the one that was sealed.
     #[error("fault seal {0}")]
     Seal(SealFault),
+    /// The journal has fewer touches than balances were asked for behind: it has so many.
+    #[error("fault place {0}")]
+    Place(u32),
+    /// What was paid in on the card of this number, less what it was charged, isn't its balance. No run
+    /// shows it.
+    #[error("fault balance {0}")]
+    Balance(u32),
     /// The address can't be listened on.
     #[error("fault listen")]
     Listen(Detail),
@@ -121,6 +131,32 @@ impl From<AuditFault> for CommandFault {
             AuditFault::Write => CommandFault::Run(RunFault::Write),
             AuditFault::Journal(fault) => CommandFault::Journal(fault),
             AuditFault::Seal(fault) => CommandFault::Seal(fault),
+        }
+    }
+}
+
+impl From<HistoryFault> for CommandFault {
+    ghost from_gives = { λ given fault. fault ≡ history_fault given };
+
+    fn from(fault: HistoryFault) -> CommandFault {
+        match fault {
+            HistoryFault::Memory => CommandFault::Run(RunFault::Memory),
+            HistoryFault::Write => CommandFault::Run(RunFault::Write),
+            HistoryFault::Journal(fault) => CommandFault::Journal(fault),
+        }
+    }
+}
+
+impl From<BalancesFault> for CommandFault {
+    ghost from_gives = { λ given fault. fault ≡ balances_fault given };
+
+    fn from(fault: BalancesFault) -> CommandFault {
+        match fault {
+            BalancesFault::Memory => CommandFault::Run(RunFault::Memory),
+            BalancesFault::Write => CommandFault::Run(RunFault::Write),
+            BalancesFault::Journal(fault) => CommandFault::Journal(fault),
+            BalancesFault::Place(touches) => CommandFault::Place(touches),
+            BalancesFault::Balance(card) => CommandFault::Balance(card),
         }
     }
 }

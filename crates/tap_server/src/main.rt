@@ -6,6 +6,7 @@
 ghost use Rattle.command_line.specs.Arguments.{IsWithin};
 
 mod audit;
+mod balances;
 mod begun;
 mod behind;
 mod check;
@@ -13,6 +14,7 @@ mod clerk;
 mod detail;
 mod fault;
 mod gate_line;
+mod history;
 mod migrate;
 mod notes;
 mod notice;
@@ -24,7 +26,9 @@ mod tables;
 mod tally;
 
 use crate::audit::verify_journal;
+use crate::balances::tell_balances;
 use crate::fault::CommandFault;
+use crate::history::tell_history;
 use crate::migrate::migrate_journal;
 use crate::notes::check_file;
 use crate::server::serve_gates;
@@ -76,6 +80,8 @@ fn run<
         Arguments::Serve(asked) => serve_gates(rt, &asked),
         Arguments::Migrate(asked) => migrate_journal(rt, &asked),
         Arguments::Verify(asked) => verify_journal(rt, &asked),
+        Arguments::History(asked) => tell_history(rt, &asked),
+        Arguments::Balances(asked) => tell_balances(rt, &asked),
     }
 }
 

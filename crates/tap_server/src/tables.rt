@@ -49,6 +49,17 @@ pub(crate) fn schedule_of<R: AllocGlobal + Files>(
     Ok(schedule)
 }
 
+/// The first table, in a file, with the tables in further files.
+pub(crate) fn tables_in<R: AllocGlobal + Files>(
+    rt: &R,
+    first: &str,
+    revisions: &[&str],
+) -> Result<Schedule, CommandFault>
+    ensures { IfOk result (λ schedule. revisions_of schedule ≡ []) }
+{
+    schedule_of(rt, first_table(rt, Some(first))?, revisions)
+}
+
 /// Adds a further table to a schedule. A fault is told with the table's place among them, from 1.
 fn supply(schedule: &mut Schedule, table: Fares, place: usize) -> Result<(), CommandFault>
     ensures ok { OnOk result (supply_fault schedule.old table ≡ None) }

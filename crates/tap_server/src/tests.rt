@@ -46,6 +46,8 @@ fn a_fault_is_told_in_one_line(rt: HostRuntime) {
     assert_told(&rt, RunFault::BadLine(7).into(), "fault run 4 BadLine 7");
     assert_told(&rt, CommandFault::File(Detail::none()), "fault file");
     assert_told(&rt, CommandFault::Listen(Detail::none()), "fault listen");
+    assert_told(&rt, CommandFault::Place(4), "fault place 4");
+    assert_told(&rt, CommandFault::Balance(17), "fault balance 17");
     let zone = CommandFault::Supply(SupplyFault::OtherZone, 1);
     assert_told(&rt, zone, "fault supply 3 OtherZone 1");
 }
