@@ -14,7 +14,7 @@ const NAME: &str = "bovtrila";
 /// What stands behind the name for `--version`: the program's version, and below it the line of the
 /// toolchain that proved it, as `rt version` prints it.
 const VERSION: &str = "1.0.0
-proved by rattle-kit-13b logic dac8208d650f15bf";
+proved by rattle-kit-13f logic dac8208d650f15bf";
 
 /// What the program does.
 const ABOUT: &str = "Answers the touches of Oyster pay as you go";

@@ -123,7 +123,7 @@ fn the_version_names_the_toolchain_that_proved_it(rt: HostRuntime) -> Result<(),
     let text = format!(in alloc; "{shown}")?;
     assert_eq!(rt;
         text.as_str(),
-        "bovtrila 1.0.0\nproved by rattle-kit-13b logic dac8208d650f15bf\n"
+        "bovtrila 1.0.0\nproved by rattle-kit-13f logic dac8208d650f15bf\n"
     );
     Ok(())
 }
