@@ -5,6 +5,7 @@ pub mod LegalLemmas
 pub mod CardLemmas
 pub mod RevisionLemmas
 pub mod TravelLemmas
+pub mod ReachedLemmas
 pub mod ViewLemmas
 pub mod OrderLemmas
 pub mod BookLemmas

@@ -15,7 +15,8 @@ pub use entry::{Entry, Found};
 pub use fault::ReplayFault;
 pub use laws::{
     books_grow, finds_exactly, first_for_ever, first_table_alone, legs_take_nothing, one_book,
-    refusals_change_nothing, revisions_alone_revise, revisions_are_unseen,
+    refusals_change_nothing, revisions_alone_revise, revisions_are_unseen, travel_never_back,
+    travel_stays,
 };
 
 #[cfg(test)]
