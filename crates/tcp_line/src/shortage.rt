@@ -8,13 +8,25 @@ use std::io;
 use thiserror::Error;
 
 /// Linux's numbers of errors that the kit's `libc` doesn't name (errno.h).
-const EINTR: i32 = 4;
-
 const ENFILE: i32 = 23;
+
+const ENONET: i32 = 64;
 
 const EPROTO: i32 = 71;
 
+const ENOPROTOOPT: i32 = 92;
+
+const EOPNOTSUPP: i32 = 95;
+
+const ENETDOWN: i32 = 100;
+
+const ENETUNREACH: i32 = 101;
+
 const ENOBUFS: i32 = 105;
+
+const EHOSTDOWN: i32 = 112;
+
+const EHOSTUNREACH: i32 = 113;
 
 /// What a system is short of where a line gets no connection. It prints as the line that is told.
 #[derive(Clone, Copy, Debug, PartialEq, Eq, Error)]
@@ -32,14 +44,17 @@ pub enum Shortage {
 
 impl Shortage {
     /// What this error of accepting, or of preparing a connection, says that the system is short of.
-    /// `None` where only the gate was gone before it was served: the next one can be taken up at
-    /// once (accept(2), "Error handling").
+    /// `None` where the error is of that gate alone, which was gone before it was served or whose
+    /// network failed: the next one can be taken up at once (accept(2), "Error handling").
     pub fn of(error: &io::Error) -> Option<Shortage>
         ensures { result ≡ shortage_of (raw_os_error error.now) }
     {
         match error.raw_os_error() {
-            Some(EINTR | EPROTO | libc::ECONNABORTED | libc::ECONNRESET) => None,
+            Some(libc::EINTR | libc::ECONNABORTED | libc::ECONNRESET) => None,
             Some(libc::ENOTCONN | libc::ETIMEDOUT | libc::EPIPE) => None,
+            // Linux passes what a connection's network failed by to the call that takes it up.
+            Some(ENETDOWN | ENETUNREACH | EHOSTDOWN | EHOSTUNREACH) => None,
+            Some(ENONET | EPROTO | ENOPROTOOPT | EOPNOTSUPP) => None,
             Some(libc::EMFILE | ENFILE) => Some(Shortage::Descriptors),
             Some(libc::ENOMEM | ENOBUFS) => Some(Shortage::Memory),
             Some(number) => Some(Shortage::Other(number)),

@@ -203,6 +203,9 @@ fn a_gate_that_sends_is_served(rt: HostRuntime) {
 fn a_gate_that_is_gone_is_passed_over_at_once(rt: HostRuntime) {
     assert_comes(&rt, &[Step::Refused(ECONNABORTED)], 2, 0, 0);
     assert_comes(&rt, &[Step::Closed, Step::Closed], 3, 0, 0);
+    // ENETDOWN, EHOSTUNREACH and ENONET: its network failed.
+    let failed = [100, 113, 64].map(Step::Refused);
+    assert_comes(&rt, &failed, 4, 0, 0);
 }
 
 #[test]
@@ -238,8 +241,12 @@ fn assert_told<R: AllocGlobal + Abort>(
 
 #[test]
 fn the_numbers_of_linux_are_told_apart(rt: HostRuntime) -> Result<(), Fail> {
-    // EINTR, EPIPE, EPROTO, ECONNABORTED, ECONNRESET, ENOTCONN, ETIMEDOUT.
-    for number in [4, 32, 71, 103, 104, 107, 110] {
+    // EINTR, EPIPE, ECONNABORTED, ECONNRESET, ENOTCONN, ETIMEDOUT.
+    for number in [4, 32, 103, 104, 107, 110] {
+        assert_told(&rt, number, None)?;
+    }
+    // ENETDOWN, EPROTO, ENOPROTOOPT, EHOSTDOWN, ENONET, EHOSTUNREACH, EOPNOTSUPP, ENETUNREACH.
+    for number in [100, 71, 92, 112, 64, 113, 95, 101] {
         assert_told(&rt, number, None)?;
     }
     for number in [23, 24] {
