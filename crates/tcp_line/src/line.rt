@@ -32,16 +32,17 @@ pub struct TcpLine<'a, R, L> {
     told: &'a AtomicBool,
     /// Whether the server's lines are ended.
     ended: &'a AtomicBool,
-    /// How long a gate may be silent, be at one request, or not take its answers.
+    /// How long a gate may be silent, leave a request half, or not take its answers.
     idle: Option<Duration>,
 }
 
 impl<'a, R: Clock + Eprint, L: OpenListener> TcpLine<'a, R, L> {
     /// A line of this listener. A gate that sends nothing, or takes none of its answers, for as long
-    /// as `idle` says is given up, and so is one whose request isn't whole so long after its first
-    /// byte; without it none is. `told` and `ended` are one each for all lines of the listener, and
-    /// `false` at first. Once `ended` is `true` each line has no more connections: one that waits for
-    /// a gate sees it within a second, and one that waits at the listener once that is shut down.
+    /// as `idle` says is given up, and so is one whose request isn't whole once its rest was waited
+    /// for so long; without it none is. `told` and `ended` are one each for all lines of the
+    /// listener, and `false` at first. Once `ended` is `true` each line has no more connections: one
+    /// that waits for a gate sees it within a second, and one that waits at the listener once that is
+    /// shut down.
     pub fn new(
         rt: &'a R,
         listener: &'a L,

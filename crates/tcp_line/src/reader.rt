@@ -17,8 +17,9 @@ use std::time::{Clock, Duration};
 /// What a gate sends over its connection.
 ///
 /// A read fails that brought nothing for as long as the line gives its gates, and one whose request
-/// isn't whole so long after its first byte. Once the server's lines are ended, what the gate has
-/// sent is read, for a second at most, and then a read fails.
+/// isn't whole once its rest was waited for so long, in all reads that begin inside it. What is
+/// there when the server reads is never late, whatever the server did before. Once the server's
+/// lines are ended, what the gate has sent is read, for a second at most, and then a read fails.
 ///
 /// Where it is dropped before the gate's end was read, as behind bytes that are no frame, the gate
 /// is let take its answers first: `hang_up`.
@@ -89,28 +90,32 @@ impl<'a, R: Clock, S: Read + OpenStream + AsRawFd + Drop> GateReader<'a, R, S> {
         self.ended.load(Ordering::Relaxed) || self.patience.is_over_at_tick(self.rt)
     }
 
-    /// These bytes came: whether the request that they go on with isn't late. A clock is asked only
-    /// inside a frame.
+    /// A read begins: inside a request its rest is waited for from now on. A clock is asked only
+    /// there, and only where a gate can be given up.
+    fn begin_wait(&mut self) {
+        if self.patience.ends() && self.place != Place::Between {
+            self.patience.begin(self.rt);
+        }
+    }
+
+    /// These bytes came: whether the request that they go on with is whole, or not late yet.
     fn is_in_time(&mut self, bytes: &[u8]) -> bool {
         if !self.patience.ends() {
             return true;
         }
-        if self.place != Place::Between && self.patience.is_over(self.rt) {
-            return false;
-        }
         let (place, begins) = self.place.pass(bytes);
         self.place = place;
-        if place == Place::Between {
+        if begins || place == Place::Between {
             self.patience.rest();
-        } else if begins {
-            self.patience.begin(self.rt);
+            return true;
         }
-        true
+        !self.patience.is_over_at_pause(self.rt)
     }
 }
 
 impl<R: Clock, S: Read + OpenStream + AsRawFd + Drop> Read for GateReader<'_, R, S> {
     fn read(&mut self, buf: &mut [u8]) -> io::Result<usize> {
+        self.begin_wait();
         let size = match self.read_on(buf) {
             Ok(size) => size,
             Err(error) => {

@@ -43,8 +43,8 @@ pub enum Shortage {
 }
 
 impl Shortage {
-    /// What this error of accepting, or of preparing a connection, says that the system is short of.
-    /// `None` where the error is of that gate alone, which was gone before it was served or whose
+    /// What this error of accepting, or of preparing a connection, says that the system is short
+    /// of. `None` where it is of that gate alone, which was gone before it was served or whose
     /// network failed: the next one can be taken up at once (accept(2), "Error handling").
     pub fn of(error: &io::Error) -> Option<Shortage>
         ensures { result ≡ shortage_of (raw_os_error error.now) }
