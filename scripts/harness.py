@@ -1,4 +1,7 @@
-"""What the scripts share: paths, running the program, and the tests' last line 'N passed, M failed'."""
+"""What the scripts share: paths, running the program, and the tests' last line 'N passed, M failed'.
+
+A test that the machine can't run is skipped with the reason, which a line tells: it counts as neither.
+"""
 import hashlib
 import os
 import pathlib
@@ -109,6 +112,12 @@ class Result(unittest.TextTestResult):
         super().addFailure(test, error)
         self.tell(test, error)
 
+    def addSkip(self, test, reason):
+        """Tells each reason once."""
+        if reason not in (told for _, told in self.skipped):
+            print(f"not run: {reason}", flush=True)
+        super().addSkip(test, reason)
+
     def addSubTest(self, test, subtest, error):
         super().addSubTest(test, subtest, error)
         if error is None:
@@ -138,4 +147,4 @@ def main():
     with open(os.devnull, "w") as silent:
         result = unittest.TextTestRunner(silent, resultclass=Result).run(tests)
     print(f"{result.passed} passed, {result.failed} failed")
-    sys.exit(1 if result.failed or not result.passed else 0)
+    sys.exit(1 if result.failed or not (result.passed or result.skipped) else 0)

@@ -11,10 +11,10 @@ class Server:
     """A running server on a free port, with its journal in the folder."""
 
     def __init__(self, folder, lines=1, connections=1, cards=10, capacity=1000, table=EXAMPLE, more=(), revised=(),
-                 **options):
+                 listen="127.0.0.1:0", **options):
         self.journal = pathlib.Path(folder) / "journal"
         words = ["serve", "--table", str(table), "--journal", str(self.journal), "--cards", str(cards),
-                 "--capacity", str(capacity), "--listen", "127.0.0.1:0", "--lines", str(lines)]
+                 "--capacity", str(capacity), "--listen", listen, "--lines", str(lines)]
         if connections is not None:
             words += ["--connections", str(connections)]
         words += [*more, *map(str, revised)]
