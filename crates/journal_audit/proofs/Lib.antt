@@ -1,2 +1,3 @@
 mod Examples
+pub mod NameLemmas
 pub mod AuditLemmas

@@ -6,6 +6,7 @@
 mod audit;
 mod fault;
 mod lines;
+mod names;
 mod report;
 mod seal;
 mod touches;

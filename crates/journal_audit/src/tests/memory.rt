@@ -1,5 +1,8 @@
 //! An audit that is refused memory.
 
+ghost use Rattle.std.specs.Prelude.{◌≡◌, [], IfSome};
+ghost use Rattle.fare_schedule.specs.Schedule.{revisions_of};
+
 use super::tables::{example, of_example};
 use super::*;
 use std::io;
@@ -30,34 +33,53 @@ impl Write for Room {
     }
 }
 
-/// How the audit of the journal of the example table ends. Nothing is written where it was refused
-/// memory. There is none where there was no memory for the table.
-fn attempt(rt: &impl Abort, alloc: Global) -> Option<Result<(), AuditFault>> {
-    let schedule = example(alloc)?;
+/// How the audit of the journal of the example table ends, with the tables that are named. Nothing is
+/// written where it was refused memory.
+fn attempt(rt: &impl Abort, alloc: Global, schedule: Option<Schedule>) -> Result<(), AuditFault>
+    requires { IfSome schedule (λ s. revisions_of s ≡ []) }
+{
     let bytes = of_example();
     let mut room = Room {
         bytes: [0; 512],
         size: 0,
     };
-    let ended = audit_journal(alloc, Some(schedule), Seal::Made, &bytes, &mut room);
+    let ended = audit_journal(alloc, schedule, Seal::Made, &bytes, &mut room);
     let taken = room.bytes.get(..room.size).unwrap_or(&[]);
     if ended.is_ok() {
         assert!(rt; taken.ends_with(b"\nsound\n"));
     } else {
         assert_eq!(rt; taken.len(), 0);
     }
-    Some(ended)
+    ended
+}
+
+/// Whether an audit came to its end. It was refused memory where it didn't.
+fn is_done(ended: Result<(), AuditFault>) -> Result<bool, Fail> {
+    match ended {
+        Ok(()) => Ok(true),
+        Err(AuditFault::Memory) => Ok(false),
+        Err(AuditFault::Journal(JournalFault::Memory)) => Ok(false),
+        Err(fault) => Err(fault.into()),
+    }
 }
 
 #[test]
 fn an_audit_that_was_refused_memory_is_begun_again(rt: HostRuntime) -> Result<(), Fail> {
     for _ in 0..TRIES {
-        match attempt(&rt, rt.alloc()) {
-            Some(Ok(())) => return Ok(()),
-            None => {}
-            Some(Err(AuditFault::Memory)) => {}
-            Some(Err(AuditFault::Journal(JournalFault::Memory))) => {}
-            Some(Err(fault)) => return Err(fault.into()),
+        if let Some(schedule) = example(rt.alloc()) {
+            if is_done(attempt(&rt, rt.alloc(), Some(schedule)))? {
+                return Ok(());
+            }
+        }
+    }
+    Err("memory is refused again and again".into())
+}
+
+#[test]
+fn so_is_one_for_which_no_table_is_named(rt: HostRuntime) -> Result<(), Fail> {
+    for _ in 0..TRIES {
+        if is_done(attempt(&rt, rt.alloc(), None))? {
+            return Ok(());
         }
     }
     Err("memory is refused again and again".into())

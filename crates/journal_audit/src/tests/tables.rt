@@ -69,8 +69,7 @@ fn the_first_touch_that_no_opening_enters_is_told(rt: HostRuntime) -> Result<(),
     let revised = over(revised, 140, &[0]);
     let missing = AuditFault::Journal(JournalFault::MissingTable(1));
     assert_eq!(rt; ended(alloc, &revised).ok_or("tables")?, Err(missing));
-    // Where no table is named, that isn't looked at.
+    // Where no table is named, no revision is looked up.
     assert_eq!(rt; audited(alloc, Seal::Unasked, &revised)?.1, Ok(()));
-    assert_eq!(rt; audited(alloc, Seal::Unasked, &twice)?.1, Ok(()));
     Ok(())
 }

@@ -1,0 +1,48 @@
+//! Journals in which a gate and number stands twice, with no table named.
+
+use super::*;
+
+/// The journal with a third touch behind its two, a top-up by 2000 pence of this gate and number, and
+/// with this number of gate 7 in the second. The first is of gate 7 with number 1.
+fn with_third(second: u8, gate: u8, number: u8) -> [u8; 257] {
+    let mut bytes = [0; 257];
+    bytes[..192].copy_from_slice(&FILE[..192]);
+    bytes[135] = second;
+    bytes[192..256].copy_from_slice(&FILE[128..192]);
+    bytes[195] = gate;
+    bytes[199] = number;
+    bytes
+}
+
+#[test]
+fn a_gate_and_number_that_stood_before_is_damage(rt: HostRuntime) -> Result<(), Fail> {
+    let alloc = rt.alloc();
+    let rows = [
+        (2, 7, 3, None),
+        (2, 8, 1, None),
+        (2, 8, 2, None),
+        (2, 7, 1, Some(2)),
+        (2, 7, 2, Some(2)),
+        (1, 7, 3, Some(1)),
+        (1, 7, 1, Some(1)),
+    ];
+    for (second, gate, number, place) in rows {
+        let bytes = with_third(second, gate, number);
+        let (text, ended) = audited(alloc, Seal::Unasked, &bytes)?;
+        match place {
+            None => {
+                assert_eq!(rt; ended, Ok(()));
+                assert!(rt;
+                    text.ends_with("touches 3\nroom 2\ntrailing 1\nsound\n"),
+                    "{text}"
+                );
+            }
+            Some(place) => {
+                let damaged = AuditFault::Journal(JournalFault::Damaged(place));
+                assert_eq!(rt; ended, Err(damaged));
+                assert_eq!(rt; text.as_str(), "");
+            }
+        }
+    }
+    Ok(())
+}
