@@ -14,7 +14,7 @@ mod touches;
 pub use audit::audit_journal;
 pub use fault::{AuditFault, SealFault};
 pub use seal::{Seal, Sealed};
-pub use touches::enter_touches;
+pub use touches::{digest_of_first, enter_touches};
 
 #[cfg(test)]
 mod tests;
