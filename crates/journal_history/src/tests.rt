@@ -94,6 +94,7 @@ fn told(
 ) -> Result<(String, Result<(), HistoryFault>), Fail> {
     let schedule = example(alloc).ok_or("a schedule")?;
     let mut written = Vec::new(alloc);
+    let bytes = bytes.to_vec(alloc)?;
     let ended = write_history(alloc, schedule, wanted, format, bytes, &mut written);
     let text = String::from_utf8(written).ok().ok_or("a text")?;
     Ok((text, ended))

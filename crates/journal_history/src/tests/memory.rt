@@ -38,7 +38,7 @@ fn attempt(rt: &impl Abort, alloc: Global) -> Option<Result<(), HistoryFault>> {
         bytes: [0; 512],
         size: 0,
     };
-    let ended = write_history(alloc, schedule, ALL, HistoryFormat::Csv, &bytes, &mut room);
+    let ended = write_history(alloc, schedule, ALL, HistoryFormat::Csv, bytes, &mut room);
     let taken = room.bytes.get(..room.size).unwrap_or(&[]);
     if ended.is_ok() {
         assert!(rt; taken.ends_with(b",Exited,550,1650\r\n"));

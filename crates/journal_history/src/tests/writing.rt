@@ -30,23 +30,16 @@ impl Write for Taker {
 #[test]
 fn a_beginning_of_the_rows_stands_where_a_write_fails(rt: HostRuntime) -> Result<(), Fail> {
     let alloc = rt.alloc();
-    let bytes = journal(alloc, false, &FRAMES).ok_or("a journal")?;
     let rows = text_of(alloc, &ROWS, "\r\n")?;
     let whole = format!(in alloc; "{HEADING}\r\n{rows}")?;
     for left in [0, 10, 100, 10_000] {
         let schedule = example(alloc).ok_or("a schedule")?;
+        let bytes = journal(alloc, false, &FRAMES).ok_or("a journal")?;
         let mut writer = Taker {
             taken: Vec::new(alloc),
             left,
         };
-        let ended = write_history(
-            alloc,
-            schedule,
-            ALL,
-            HistoryFormat::Csv,
-            &bytes,
-            &mut writer,
-        );
+        let ended = write_history(alloc, schedule, ALL, HistoryFormat::Csv, bytes, &mut writer);
         let size = whole.len().min(left);
         assert_eq!(rt;
             writer.taken.as_slice(),
