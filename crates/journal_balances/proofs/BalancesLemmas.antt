@@ -19,6 +19,7 @@ use Rattle.reply_book.specs.Legal.{book}
 use Rattle.reply_book.specs.Names.{AreNamedOnce}
 use Rattle.reply_book.specs.Tables.{AreKnown}
 use Rattle.journal_audit.specs.Audit.{IsJournal}
+use Rattle.journal_balances.proofs.AccountLemmas.{rows-account}
 use Rattle.oyster_account.specs.declared.touch.Touch.{Touch}
 use Rattle.tap_journal.specs.declared.layout.Format.{Format}
 use Rattle.tap_journal.specs.Layout.{Header}
@@ -109,6 +110,7 @@ balances-told tables at bytes format h all seen touches rows shown summed text t
       };
       entered = has.entered;
       rows = subst (All IsBalanced) has.are has.balanced;
+      accounts = rows-account tables h.cards (book tables h.cards touches) (subst (All IsBalanced) has.are has.balanced);
       lines = lines ∙ ap text_of_rows (shows ∙ has.are);
       sums = are ∙ ap totals_of (sums ∙ has.are);
       balanced = balanced;

@@ -17,6 +17,7 @@ use Rattle.journal_balances.specs.declared.fault.BalancesFault.TheVariants.{Memo
 use Rattle.journal_balances.specs.declared.row.Row.{Row}
 use Rattle.journal_balances.specs.declared.totals.Totals.{Totals}
 use Rattle.journal_balances.specs.Rows.{rows_of, IsBalanced, IsFirstUnbalanced}
+use Rattle.journal_balances.specs.Account.{IsByAccount}
 use Rattle.journal_balances.specs.Totals.{totals_of, AreTotalsBalanced}
 use Rattle.journal_balances.specs.Lines.{text_of_rows}
 
@@ -50,7 +51,7 @@ pub record HasRows (tables : Tables) (cards : ℕ) (touches : List Touch) (rows 
   pub balanced : All IsBalanced rows
 
 -- the bytes are a journal whose touches up to the place can be entered; the text and the totals are
--- those of the rows after them, and each row is balanced
+-- those of the rows after them, and each row is balanced and by the account of its own card alone
 pub record AreBalances (tables : Tables) (at : Option ℕ) (bytes text : List ℕ) (totals : Totals)
     : Type 0 where
   pub h : Header
@@ -58,6 +59,8 @@ pub record AreBalances (tables : Tables) (at : Option ℕ) (bytes text : List �
   pub journal : AreTouchesOf tables at bytes h touches
   pub entered : AreEntered (Some tables) touches
   pub rows : All IsBalanced (rows_after tables h.cards touches)
+  pub accounts : All (IsByAccount tables (book tables h.cards touches))
+      (rows_after tables h.cards touches)
   pub lines : text ≡ text_of_rows (rows_after tables h.cards touches)
   pub sums : totals ≡ totals_of (rows_after tables h.cards touches)
   pub balanced : AreTotalsBalanced totals
