@@ -22,6 +22,7 @@ mod post;
 mod refusal;
 mod report;
 mod server;
+mod standard;
 mod tables;
 mod tally;
 
@@ -32,6 +33,7 @@ use crate::history::tell_history;
 use crate::migrate::migrate_journal;
 use crate::notes::check_file;
 use crate::server::serve_gates;
+use crate::standard::standard_files;
 use crate::tables::{first_table, schedule_of};
 use command_line::{Arguments, arguments_of, refuse_bytes};
 use line_replay::{RunFault, replay_text};
@@ -77,7 +79,10 @@ fn run<
             revisions,
         } => replay_input(rt, table, revisions.as_slice(), cards),
         Arguments::Check { table } => check_file(rt, table),
-        Arguments::Serve(asked) => serve_gates(rt, &asked),
+        Arguments::Serve(asked) => {
+            let _held = standard_files(rt);
+            serve_gates(rt, &asked)
+        }
         Arguments::Migrate(asked) => migrate_journal(rt, &asked),
         Arguments::Verify(asked) => verify_journal(rt, &asked),
         Arguments::History(asked) => tell_history(rt, &asked),

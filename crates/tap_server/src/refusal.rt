@@ -165,8 +165,17 @@ fn lock_refusal(file: &File) -> Refusal {
         return refusal;
     }
     match file.try_lock() {
-        Ok(()) => Refusal::Passed,
+        Ok(()) => sync_refusal(file),
         Err(TryLockError::WouldBlock) => Refusal::Locked,
         Err(TryLockError::Error(error)) => Refusal::of(&error),
+    }
+}
+
+/// Why an open file that can be locked isn't had by a second descriptor, or isn't synced.
+fn sync_refusal(file: &File) -> Refusal {
+    let synced = file.try_clone().and_then(|second| second.sync_all());
+    match synced {
+        Ok(()) => Refusal::Passed,
+        Err(error) => Refusal::of(&error),
     }
 }
