@@ -223,8 +223,8 @@ fn serve_command<'a>(alloc: Global) -> Result<Command<'a>, Error> {
     }
     let connections = number(alloc, "connections", CONNECTIONS_LIMIT).help(CONNECTIONS_HELP);
     let idle = number(alloc, "idle", IDLE_LIMIT).value_name("SECONDS").help(
-        "Ends a connection on which nothing was sent, or taken, for so long;
-without it none is ended",
+        "Ends a connection on which nothing was sent, or taken, for so long,
+or the rest of a request didn't come; without it none is ended",
     );
     let stays = Arg::new(alloc, "stay-halted")
         .long("stay-halted")

@@ -5,28 +5,54 @@ use clap::error::ErrorKind;
 use std::alloc::Global;
 use std::test::Fail;
 
-/// A replay of so many cards by the table in a file, or by the example table, and by further ones.
-fn replay_of<'a>(table: Option<&'a str>, cards: u32, revisions: Vec<&'a str>) -> Arguments<'a> {
-    Arguments::Replay {
-        table,
-        cards,
-        revisions,
+/// The status that a command line ends with which is answered by an error, or by a help text.
+fn status_of(alloc: Global, words: &[&str]) -> Option<i32> {
+    let error = arguments_of(alloc, words).err()?;
+    Some(error.exit_code())
+}
+
+/// The table, the number of cards and the further tables of the replay that these words ask for, where
+/// they do.
+fn replay_of<'a>(
+    alloc: Global,
+    words: &'a [&'a str],
+) -> Option<(Option<&'a str>, u32, Vec<&'a str>)> {
+    match arguments_of(alloc, words) {
+        Ok(
+            Arguments::Replay {
+                table,
+                cards,
+                revisions,
+            },
+        ) => Some((table, cards, revisions)),
+        _ => None,
+    }
+}
+
+/// The table that these words ask to look at, where they do.
+fn checked_by<'a>(alloc: Global, words: &'a [&'a str]) -> Option<&'a str> {
+    match arguments_of(alloc, words) {
+        Ok(Arguments::Check { table }) => Some(table),
+        _ => None,
     }
 }
 
 #[test]
-fn a_command_line_has_one_command_and_what_it_needs(rt: HostRuntime) -> Result<(), Fail> {
+fn a_replay_has_a_number_of_cards(rt: HostRuntime) -> Result<(), Fail> {
     let alloc = rt.alloc();
     for (number, cards) in [("1", 1), ("10", 10), ("100000", 100_000)] {
         let words = ["bovtrila", "replay", "--cards", number];
-        assert_eq!(rt;
-            arguments_of(alloc, &words)?,
-            replay_of(None, cards, Vec::new(alloc))
-        );
+        let (table, asked, revisions) = replay_of(alloc, &words).ok_or("a replay")?;
+        assert_eq!(rt; (table, asked, revisions.len()), (None, cards, 0));
     }
+    Ok(())
+}
+
+#[test]
+fn a_table_is_named_by_its_file(rt: HostRuntime) -> Result<(), Fail> {
+    let alloc = rt.alloc();
     let words = ["bovtrila", "check", "--table", "fares.toml"];
-    let table = "fares.toml";
-    assert_eq!(rt; arguments_of(alloc, &words)?, Arguments::Check { table });
+    assert_eq!(rt; checked_by(alloc, &words), Some("fares.toml"));
     let words = [
         "bovtrila",
         "replay",
@@ -35,10 +61,13 @@ fn a_command_line_has_one_command_and_what_it_needs(rt: HostRuntime) -> Result<(
         "--table",
         "fares.toml",
     ];
-    assert_eq!(rt;
-        arguments_of(alloc, &words)?,
-        replay_of(Some(table), 10, Vec::new(alloc))
-    );
+    let (table, cards, _) = replay_of(alloc, &words).ok_or("a replay")?;
+    assert_eq!(rt; (table, cards), (Some("fares.toml"), 10));
+    Ok(())
+}
+
+#[test]
+fn any_other_command_line_is_refused(rt: HostRuntime) -> Result<(), Fail> {
     let refused: [&[&str]; 14] = [
         &["bovtrila"],
         &["bovtrila", "reply", "--cards", "10"],
@@ -63,13 +92,11 @@ fn a_command_line_has_one_command_and_what_it_needs(rt: HostRuntime) -> Result<(
         ],
     ];
     for words in refused {
-        let error = arguments_of(alloc, words).err().ok_or("a refusal")?;
-        assert_eq!(rt; error.exit_code(), 2);
+        assert_eq!(rt; status_of(rt.alloc(), words), Some(2));
     }
     for command in ["replay", "check"] {
         let words = ["bovtrila", command, "--help"];
-        let help = arguments_of(alloc, &words).err().ok_or("help")?;
-        assert_eq!(rt; help.exit_code(), 0, "{command}");
+        assert_eq!(rt; status_of(rt.alloc(), &words), Some(0), "{command}");
     }
     Ok(())
 }
@@ -100,14 +127,6 @@ fn serve_words<'a>(lines: &'a str, connections: &'a str) -> [&'a str; 16] {
 fn serve_of<'a>(alloc: Global, words: &'a [&'a str]) -> Option<Serve<'a>> {
     match arguments_of(alloc, words) {
         Ok(Arguments::Serve(serve)) => Some(serve),
-        _ => None,
-    }
-}
-
-/// The files of further tables that these words name for a replay, where they ask for one.
-fn replayed_by<'a>(alloc: Global, words: &'a [&'a str]) -> Option<Vec<&'a str>> {
-    match arguments_of(alloc, words) {
-        Ok(Arguments::Replay { revisions, .. }) => Some(revisions),
         _ => None,
     }
 }
@@ -191,7 +210,7 @@ fn further_tables_are_the_last_words(rt: HostRuntime) -> Result<(), Fail> {
     let words = [
         "bovtrila", "replay", "--cards", "10", "a.toml", "b.toml", "a.toml",
     ];
-    let tables = replayed_by(alloc, &words).ok_or("a replay")?;
+    let (_, _, tables) = replay_of(alloc, &words).ok_or("a replay")?;
     assert_eq!(rt;
         tables.as_slice(),
         ["a.toml", "b.toml", "a.toml"].as_slice()
@@ -221,8 +240,7 @@ fn a_line_is_never_done_where_no_number_of_connections_is_named(
     }
     for number in ["0", "1000001", "x", "+5"] {
         let words = serve_words("64", number);
-        let error = arguments_of(alloc, &words).err().ok_or("a refusal")?;
-        assert_eq!(rt; error.exit_code(), 2, "{number} connections");
+        assert_eq!(rt; status_of(alloc, &words), Some(2), "{number} connections");
     }
     Ok(())
 }
@@ -245,12 +263,10 @@ fn a_server_needs_its_tables_its_journal_and_its_numbers(rt: HostRuntime) -> Res
     assert_eq!(rt; (serve.idle, serve.stay_halted), (Some(600), true));
     for lines in ["0", "65", "+2", "-1", "x"] {
         let words = serve_words(lines, "2");
-        let error = arguments_of(alloc, &words).err().ok_or("a refusal")?;
-        assert_eq!(rt; error.exit_code(), 2, "{lines} lines");
+        assert_eq!(rt; status_of(alloc, &words), Some(2), "{lines} lines");
     }
     let fewer = words.get(..12).ok_or("so many words")?;
-    let error = arguments_of(alloc, fewer).err().ok_or("a refusal")?;
-    assert_eq!(rt; error.exit_code(), 2);
+    assert_eq!(rt; status_of(alloc, fewer), Some(2));
     Ok(())
 }
 
@@ -289,13 +305,9 @@ fn a_migration_needs_all_its_options(rt: HostRuntime) -> Result<(), Fail> {
     assert_eq!(rt; asked.cards, 10);
     let mut more = words.to_vec(alloc)?;
     more.extend_from_slice(&["b.toml"])?;
-    let error = arguments_of(alloc, more.as_slice())
-        .err()
-        .ok_or("a refusal")?;
-    assert_eq!(rt; error.exit_code(), 2);
+    assert_eq!(rt; status_of(alloc, more.as_slice()), Some(2));
     let fewer = words.get(..8).ok_or("so many words")?;
-    let error = arguments_of(alloc, fewer).err().ok_or("a refusal")?;
-    assert_eq!(rt; error.exit_code(), 2);
+    assert_eq!(rt; status_of(alloc, fewer), Some(2));
     Ok(())
 }
 
@@ -338,10 +350,7 @@ fn a_verification_needs_a_journal_alone(rt: HostRuntime) -> Result<(), Fail> {
     let asked = verification_of(alloc, &words).ok_or("a verification")?;
     assert_eq!(rt; (asked.table, asked.seal), (Some("a.toml"), Seal::Made));
     assert_eq!(rt; asked.revisions.as_slice(), ["b.toml", "c.toml"].as_slice());
-    let error = arguments_of(alloc, &["bovtrila", "verify"])
-        .err()
-        .ok_or("a refusal")?;
-    assert_eq!(rt; error.exit_code(), 2);
+    assert_eq!(rt; status_of(alloc, &["bovtrila", "verify"]), Some(2));
     Ok(())
 }
 
@@ -376,8 +385,7 @@ fn a_journal_is_held_against_a_number_and_a_digest(rt: HostRuntime) -> Result<()
         ("1", "x"),
     ] {
         let words = sealed_words(number, digest);
-        let error = arguments_of(alloc, &words).err().ok_or("a refusal")?;
-        assert_eq!(rt; error.exit_code(), 2, "{number} {digest}");
+        assert_eq!(rt; status_of(alloc, &words), Some(2), "{number} {digest}");
     }
     Ok(())
 }
@@ -424,8 +432,7 @@ fn a_seal_is_asked_for_once_and_whole(rt: HostRuntime) -> Result<(), Fail> {
         &["bovtrila", "verify", "--journal", "a.journal", "b.toml"],
     ];
     for words in refused {
-        let error = arguments_of(alloc, words).err().ok_or("a refusal")?;
-        assert_eq!(rt; error.exit_code(), 2);
+        assert_eq!(rt; status_of(alloc, words), Some(2));
     }
     Ok(())
 }

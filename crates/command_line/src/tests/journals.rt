@@ -1,3 +1,4 @@
+use crate::tests::status_of;
 use crate::{Arguments, Balances, History, HistoryFormat, arguments_of};
 use std::alloc::Global;
 use std::test::Fail;
@@ -45,8 +46,7 @@ fn a_history_needs_a_table_and_a_journal(rt: HostRuntime) -> Result<(), Fail> {
     );
     for count in [2, 4] {
         let fewer = words.get(..count).ok_or("so many words")?;
-        let error = arguments_of(alloc, fewer).err().ok_or("a refusal")?;
-        assert_eq!(rt; error.exit_code(), 2);
+        assert_eq!(rt; status_of(alloc, fewer), Some(2));
     }
     Ok(())
 }
@@ -91,8 +91,7 @@ fn a_history_is_of_a_card_and_a_day(rt: HostRuntime) -> Result<(), Fail> {
         ("--at", "7"),
     ] {
         let words = words_of("history", option, value);
-        let error = arguments_of(alloc, &words).err().ok_or("a refusal")?;
-        assert_eq!(rt; error.exit_code(), 2, "{option} {value}");
+        assert_eq!(rt; status_of(alloc, &words), Some(2), "{option} {value}");
     }
     Ok(())
 }
@@ -112,8 +111,7 @@ fn balances_are_told_after_so_many_touches(rt: HostRuntime) -> Result<(), Fail> 
     }
     for number in ["1000001", "+1", "-1", "x", ""] {
         let words = words_of("balances", "--at", number);
-        let error = arguments_of(alloc, &words).err().ok_or("a refusal")?;
-        assert_eq!(rt; error.exit_code(), 2, "{number}");
+        assert_eq!(rt; status_of(alloc, &words), Some(2), "{number}");
     }
     Ok(())
 }
