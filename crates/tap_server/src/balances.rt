@@ -31,8 +31,8 @@ pub(crate) fn tell_balances<R: AllocGlobal + Files + Print + Eprint>(
     Ok(ExitCode::SUCCESS)
 }
 
-/// Tells the sums over all issued cards, and that they are balanced: `write_balances` refuses a journal in which a
-/// card's, or their sum, isn't.
+/// Tells the sums over all issued cards, and that they are balanced: `write_balances` refuses a
+/// journal in which a card's, or their sum, isn't.
 fn tell_totals<R: Eprint>(rt: &R, totals: &Totals) {
     let (cards, balance) = (totals.cards, totals.balance);
     let (paid_in, charged) = (totals.paid_in, totals.charged);
