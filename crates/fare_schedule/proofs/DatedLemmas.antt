@@ -4,7 +4,7 @@ use Rattle.std.proofs.Common.{length, get_or, Option, Some, None, refl, sym, ap,
 use Rattle.std.specs.Prelude.{option_map, slice_get, int_le, unwrap_or}
 use Rattle.std.specs.List.{last_or}
 use Rattle.std.specs.List.Sorted.{IsPartitionedBy}
-use Rattle.std.proofs.lemmas.Bool.{cases_lt}
+use Rattle.std.proofs.lemmas.Bool.{cases_lt, false_from_ne_true}
 use Rattle.std.proofs.lemmas.Int.{ints}
 use Rattle.std.proofs.lemmas.List.{get_or_append_left}
 use Rattle.std.proofs.lemmas.List.Elements.{All-head, All-tail}
@@ -14,6 +14,7 @@ use Rattle.fare_table.specs.declared.fares.Fares.{Fares}
 use Rattle.fare_schedule.specs.InForce.{Revision}
 use Rattle.fare_schedule.specs.Places.{table_at}
 use Rattle.fare_schedule.specs.Dated.{place_by, AreAscending, ArePlaced, is_until, revision_of, revisions_by}
+use Rattle.fare_schedule.specs.Dated.{counts_at, IsCountOn}
 use Rattle.fare_schedule.specs.declared.dated.Dated.{Dated}
 
 until-earlier : (a b day : ℤ) → a <ℤ b → int_le b day ≡ true → int_le a day ≡ true
@@ -26,6 +27,48 @@ partitioned day ds ascending i j d le below is =
       | inl before ↦ until-earlier (get_or ds i d).day (get_or ds j d).day day (ascending i j d before below) is
       | inr past ↦ subst (λ n. is_until day (get_or ds n d) ≡ true) (omega (arith, le, past)) is
     ]
+
+-- where the one at a place doesn't count, none from there on does
+none-from : (day : ℤ) (ds : List Dated) (n : ℕ) → AreAscending ds → counts_at day ds n ≡ false →
+    (place : ℕ) (other : Dated) → n ≤ place → place < length ds → is_until day (get_or ds place other) ≡ false
+none-from day ds n ascending none place other le below =
+    let at : slice_get ds n ≡ Some (get_or ds n other) = slice_get-get_or ds n other (omega (arith, le, below)) in
+    let here : is_until day (get_or ds n other) ≡ false =
+    subst (λ o. unwrap_or (option_map (is_until day) o) false ≡ false) at none in
+    false_from_ne_true (is_until day (get_or ds place other))
+    (λ is. cc (here, partitioned day ds ascending n place other le below is))
+
+-- and where it counts, so do all before it
+all-until : (day : ℤ) (ds : List Dated) (n : ℕ) → AreAscending ds → counts_at day ds n ≡ true → n < length ds →
+    (place : ℕ) (other : Dated) → place ≤ n → is_until day (get_or ds place other) ≡ true
+all-until day ds n ascending counts within place other le =
+    let at : slice_get ds n ≡ Some (get_or ds n other) = slice_get-get_or ds n other within in
+    partitioned day ds ascending place n other le within
+    (subst (λ o. unwrap_or (option_map (is_until day) o) false ≡ true) at counts)
+
+-- it is there then
+pub counts-within : (day : ℤ) (ds : List Dated) (n : ℕ) → counts_at day ds n ≡ true → n < length ds
+counts-within day [] n counts = absurd (cc)
+counts-within day (d ∷ ds) zero counts = omega arith
+counts-within day (d ∷ ds) (suc n) counts =
+    let below = counts-within day ds n counts in
+    omega (arith, below)
+
+-- where the first doesn't count, none does
+pub count-none : (day : ℤ) (ds : List Dated) → AreAscending ds → counts_at day ds 0 ≡ false → IsCountOn day ds 0
+count-none day ds ascending none = record {
+  first = λ place other below. absurd (omega (arith, below));
+  others = none-from day ds 0 ascending none;
+}
+
+-- where one counts and the one behind it doesn't, it is the last that does
+pub count-some : (day : ℤ) (ds : List Dated) (n : ℕ) → AreAscending ds → counts_at day ds n ≡ true →
+    counts_at day ds (suc n) ≡ false → IsCountOn day ds (suc n)
+count-some day ds n ascending counts none = record {
+  first = λ place other below. all-until day ds n ascending counts (counts-within day ds n counts) place other
+      (omega (arith, below));
+  others = none-from day ds (suc n) ascending none;
+}
 
 -- where none counts, the place stays
 pub place-none : (place : ℕ) (ds : List Dated) (day : ℤ) →

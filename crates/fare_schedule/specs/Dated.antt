@@ -1,5 +1,6 @@
 -- Revisions as the code keeps them: the place of the table and the fare day, oldest first.
-use Rattle.std.specs.Prelude.{ℕ, ℤ, ◌≤◌, ◌<ℤ◌, int_le, Bool, List, [], ◌∷◌, map, if◌then◌else◌}
+use Rattle.std.specs.Prelude.{◌≡◌, ℕ, ℤ, ◌≤◌, ◌<◌, ◌<ℤ◌, int_le, Bool, true, false, List, [], ◌∷◌, map, length}
+use Rattle.std.specs.Prelude.{get_or, slice_get, unwrap_or, option_map, if◌then◌else◌}
 use Rattle.std.specs.List.{All, AllPairs}
 use Rattle.fare_table.specs.Fares.{digest_of}
 use Rattle.fare_table.specs.declared.fares.Fares.{Fares}
@@ -35,3 +36,13 @@ revision_of first supplied dated = record {
 -- the revisions that they are
 abbrev pub revisions_by : Fares → List Fares → List Dated → List Revision
 revisions_by first supplied dated = map (revision_of first supplied) dated
+
+-- there is one at a place, and its day is at most this one
+abbrev pub counts_at : ℤ → List Dated → ℕ → Bool
+counts_at day dated place = unwrap_or (option_map (is_until day) (slice_get dated place)) false
+
+-- so many of these have a day that is at most this one: the first, and none behind them
+pub record IsCountOn (day : ℤ) (dated : List Dated) (count : ℕ) : Type 0 where
+  pub first : (place : ℕ) (other : Dated) → place < count → is_until day (get_or dated place other) ≡ true
+  pub others : (place : ℕ) (other : Dated) → count ≤ place → place < length dated
+      → is_until day (get_or dated place other) ≡ false

@@ -7,7 +7,7 @@ ghost use Rattle.fare_schedule.specs.Places.{AreDistinct, place_from, table_at};
 ghost use Rattle.fare_schedule.specs.Dated.{ArePlaced, AreAscending, revision_of};
 ghost use Rattle.fare_schedule.specs.Stations.{HaveSameStations, have_same_stations};
 
-use crate::dated::{Dated, place_on};
+use crate::dated::{Dated, count_on, place_on};
 use crate::digest::place_among;
 use crate::fault::SupplyFault;
 use crate::stations::have_same_stations;
@@ -27,6 +27,8 @@ pub struct Schedule {
     first: Fares,
     supplied: Vec<Fares>,
     dated: Vec<Dated>,
+    /// How many revisions count on the day that was turned to: whatever it is, no table goes by it.
+    recent: usize,
     ghost ascending: { AreAscending dated.items },
     ghost placed: { ArePlaced (length supplied.items) dated.items },
     ghost distinct: { AreDistinct (first ∷ supplied.items) },
@@ -34,7 +36,7 @@ pub struct Schedule {
 }
 
 impl Schedule {
-    ghost use Rattle.std.specs.Prelude.{◌≢◌, ◌<◌, ◌<ℤ◌, ◌≤ℤ◌, ◌++◌, ◌↔◌, ℤ, [], None, Some};
+    ghost use Rattle.std.specs.Prelude.{◌≢◌, ◌<◌, ◌<ℤ◌, ◌≤ℤ◌, ◌++◌, ◌↔◌, ℕ, ℤ, [], None, Some};
     ghost use Rattle.std.specs.Prelude.{is_some, IsTrue, IsOk, IsSome, IfOk, IfErr, IfSome, OnOk};
     ghost use Rattle.std.specs.Prelude.{OnErr, true, vec_capacity};
     ghost use Rattle.fare_table.specs.Fares.{digest_of};
@@ -53,6 +55,7 @@ impl Schedule {
             first,
             supplied: Vec::new(alloc),
             dated: Vec::new(alloc),
+            recent: 0,
         })
     }
 
@@ -65,10 +68,25 @@ impl Schedule {
 
     /// The table in force on a fare day: that of the last revision whose day is at most it, and
     /// before the days of all revisions the first.
+    ///
+    /// On the day that [`Schedule::turn_to`] turned to, and on all with the same table, it is found
+    /// at once, and on others by halving.
     pub fn on(&self, day: i32) -> &Fares
         ensures { result.now ≡ table_on self.now day }
     {
-        self.table(place_on(self.dated.as_slice(), day))
+        self.table(place_on(self.dated.as_slice(), self.recent, day))
+    }
+
+    /// Turns to a fare day, which [`Schedule::on`] is likely to be asked for next. Tables, revisions
+    /// and room stay, and so does the table in force on each day. It takes no memory.
+    pub fn turn_to(&mut self, day: i32)
+        ensures tables { tables_of self.new ≡ tables_of self.old }
+        ensures revisions { revisions_of self.new ≡ revisions_of self.old }
+        ensures room { HasRoom self.old → HasRoom self.new }
+        ensures on { (day : ℤ) → table_on self.new day ≡ table_on self.old day }
+        ensures stamp { (moment : ℕ) → stamp_by self.new moment ≡ stamp_by self.old moment }
+    {
+        self.recent = count_on(self.dated.as_slice(), self.recent, day);
     }
 
     /// The stamp of a moment, by the first table's zone and the holidays of the table in force on

@@ -62,6 +62,22 @@ fn of_five_revisions_the_last_counts(rt: HostRuntime) {
     ];
     assert_days(&rt, &schedule, &days);
     assert_eq!(rt; schedule.last_day(), Some(i32::MAX));
+
+    // Whichever day is turned to.
+    for (day, _) in days {
+        schedule.turn_to(day);
+        assert_days(&rt, &schedule, &days);
+        assert_eq!(rt; schedule.last_day(), Some(i32::MAX));
+    }
+}
+
+#[test]
+fn a_day_may_be_turned_to_before_it_is_revised(rt: HostRuntime) {
+    let mut schedule = revised(&rt, rt.alloc(), 10);
+    schedule.turn_to(12);
+    revise(&rt, &mut schedule, &EXAMPLE, 12);
+    let days = [(9, EXAMPLE), (10, REVISED), (11, REVISED), (12, EXAMPLE)];
+    assert_days(&rt, &schedule, &days);
 }
 
 /// A moment, and its fare day, its minute and its window.
