@@ -13,6 +13,3 @@ pub use arguments::{Arguments, Migrate, Serve, Verify, arguments_of, refuse_byte
 pub use balances::Balances;
 pub use history::{History, HistoryFormat};
 pub use seal::Seal;
-
-#[cfg(test)]
-mod tests;

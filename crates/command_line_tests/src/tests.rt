@@ -1,0 +1,362 @@
+//! What command lines ask for. Each is written as one text, with a space between its words.
+mod journals;
+
+use clap::error::ErrorKind;
+use command_line::{arguments_of, refuse_bytes};
+use std::alloc::Global;
+use std::process::Abort;
+use std::test::Fail;
+
+/// The words of a command line, behind the program's name.
+fn words_of<'a>(alloc: Global, line: &'a str) -> Option<Vec<&'a str>> {
+    let mut words = Vec::new(alloc);
+    words.push("bovtrila").ok()?;
+    for word in line.split(' ') {
+        words.push(word).ok()?;
+    }
+    Some(words)
+}
+
+/// The status that a command line ends with which is answered by an error, or by a help text.
+fn status_of(alloc: Global, words: &[&str]) -> Option<i32> {
+    let error = arguments_of(alloc, words).err()?;
+    Some(error.exit_code())
+}
+
+/// What a command line asks for, with all its values, where it asks for something.
+fn asked(alloc: Global, line: &str) -> Option<String> {
+    let words = words_of(alloc, line)?;
+    let arguments = arguments_of(alloc, words.as_slice()).ok()?;
+    format!(in alloc; "{arguments:?}").ok()
+}
+
+/// Each of these command lines asks for this.
+fn assert_asked(rt: &impl Abort, alloc: Global, rows: &[(&str, &str)]) {
+    for (line, wanted) in rows {
+        let told = asked(alloc, line).expect(rt, "a command");
+        assert_eq!(rt; told.as_str(), *wanted, "{line}");
+    }
+}
+
+/// Each of these command lines is refused.
+fn assert_refused(rt: &impl Abort, alloc: Global, lines: &[&str]) {
+    for line in lines {
+        let words = words_of(alloc, line).expect(rt, "words");
+        assert_eq!(rt; status_of(alloc, words.as_slice()), Some(2), "{line}");
+    }
+}
+
+#[test]
+fn a_replay_has_a_number_of_cards(rt: HostRuntime) {
+    let rows = [
+        (
+            "replay --cards 1",
+            "Replay { table: None, cards: 1, revisions: [] }",
+        ),
+        (
+            "replay --cards 10",
+            "Replay { table: None, cards: 10, revisions: [] }",
+        ),
+        (
+            "replay --cards 100000",
+            "Replay { table: None, cards: 100000, revisions: [] }",
+        ),
+    ];
+    assert_asked(&rt, rt.alloc(), &rows);
+}
+
+#[test]
+fn a_table_is_named_by_its_file(rt: HostRuntime) {
+    let rows = [
+        (
+            "check --table fares.toml",
+            "Check { table: \"fares.toml\" }",
+        ),
+        (
+            "replay --cards 10 --table fares.toml",
+            "Replay { table: Some(\"fares.toml\"), cards: 10, revisions: [] }",
+        ),
+    ];
+    assert_asked(&rt, rt.alloc(), &rows);
+}
+
+#[test]
+fn any_other_command_line_is_refused(rt: HostRuntime) {
+    let alloc = rt.alloc();
+    let refused = [
+        "reply --cards 10",
+        "replay",
+        "replay --cards",
+        "replay --cards 0",
+        "replay --cards 100001",
+        "replay --cards x",
+        "replay --cards +10",
+        "replay --cards 10 --cards 10",
+        "--cards 10 replay",
+        "check",
+        "check --table",
+        "check fares.toml",
+        "check --table fares.toml --cards 10",
+    ];
+    assert_refused(&rt, alloc, &refused);
+    assert_eq!(rt; status_of(alloc, &["bovtrila"]), Some(2));
+    for command in ["replay", "check"] {
+        let words = ["bovtrila", command, "--help"];
+        assert_eq!(rt; status_of(alloc, &words), Some(0), "{command}");
+    }
+}
+
+#[test]
+fn the_version_names_the_toolchain_that_proved_it(rt: HostRuntime) -> Result<(), Fail> {
+    let alloc = rt.alloc();
+    let words = ["bovtrila", "--version"];
+    let shown = arguments_of(alloc, &words).err().ok_or("a version")?;
+    assert_eq!(rt; shown.kind(), ErrorKind::DisplayVersion);
+    assert_eq!(rt; shown.exit_code(), 0);
+    assert!(rt; !shown.use_stderr());
+    let text = format!(in alloc; "{shown}")?;
+    assert_eq!(rt;
+        text.as_str(),
+        "bovtrila 1.0.0\nproved by rattle-kit-13f logic dac8208d650f15bf\n"
+    );
+    Ok(())
+}
+
+#[test]
+fn help_names_the_program_and_fits_a_hundred_columns(rt: HostRuntime) -> Result<(), Fail> {
+    let alloc = rt.alloc();
+    for (command, usage, example) in [
+        (
+            "replay",
+            "[OPTIONS] --cards <N> [REVISION]...\n",
+            "| bovtrila replay --cards 10\n",
+        ),
+        (
+            "check",
+            "--table <FILE>\n",
+            "  bovtrila check --table fares.toml\n",
+        ),
+        (
+            "serve",
+            "[OPTIONS] --table <FILE> --journal <FILE> --listen <ADDR> --cards <N>\n         \
+             --capacity <N> --lines <N> [REVISION]...\n",
+            "  bovtrila serve --table fares.toml --journal station.journal",
+        ),
+        (
+            "migrate",
+            "--table <FILE> --from <FILE> --to <FILE> --cards <N>\n",
+            "  bovtrila migrate --table fares.toml --from station.journal",
+        ),
+        (
+            "verify",
+            "[OPTIONS] --journal <FILE> [REVISION]...\n",
+            "  bovtrila verify --journal station.journal --table fares.toml --seal",
+        ),
+        (
+            "history",
+            "[OPTIONS] --table <FILE> --journal <FILE> [REVISION]...\n",
+            "  bovtrila history --table fares.toml --journal station.journal",
+        ),
+        (
+            "balances",
+            "[OPTIONS] --table <FILE> --journal <FILE> [REVISION]...\n",
+            "  bovtrila balances --table fares.toml --journal station.journal --at 5000",
+        ),
+    ] {
+        // The file that the program is started from has another name.
+        let words = ["out/tap_server", command, "--help"];
+        let help = arguments_of(alloc, &words).err().ok_or("help")?;
+        assert_eq!(rt; help.kind(), ErrorKind::DisplayHelp, "{command}");
+        let text = format!(in alloc; "{help}")?;
+        let usage = format!(in alloc; "\nUsage: bovtrila {command} {usage}")?;
+        assert!(rt; text.contains(usage.as_str()), "{text}");
+        assert!(rt; text.contains(example), "{text}");
+        assert!(rt; !text.contains("tap_server"), "{text}");
+        for line in text.lines() {
+            assert!(rt; line.chars().count() <= 100, "{line}");
+        }
+    }
+    Ok(())
+}
+
+#[test]
+fn further_tables_are_the_last_words(rt: HostRuntime) {
+    let rows = [
+        (
+            "replay --cards 10 a.toml b.toml a.toml",
+            "Replay { table: None, cards: 10, revisions: [\"a.toml\", \"b.toml\", \"a.toml\"] }",
+        ),
+        (
+            "serve --table fares.toml --journal station.journal --cards 10 --capacity 100 \
+             --listen 127.0.0.1:0 --lines 64 --connections 2 b.toml a.toml",
+            "Serve(Serve { table: \"fares.toml\", revisions: [\"b.toml\", \"a.toml\"], \
+             journal: \"station.journal\", cards: 10, capacity: 100, listen: \"127.0.0.1:0\", \
+             lines: 64, connections: Some(2), idle: None, stay_halted: false })",
+        ),
+    ];
+    assert_asked(&rt, rt.alloc(), &rows);
+}
+
+#[test]
+fn a_line_is_never_done_where_no_number_of_connections_is_named(rt: HostRuntime) {
+    let rows = [
+        (
+            "serve --table a.toml --journal b --cards 10 --capacity 100 --listen c --lines 64",
+            "Serve(Serve { table: \"a.toml\", revisions: [], journal: \"b\", cards: 10, \
+             capacity: 100, listen: \"c\", lines: 64, connections: None, idle: None, \
+             stay_halted: false })",
+        ),
+        (
+            "serve --table a.toml --journal b --cards 10 --capacity 100 --listen c --lines 64 \
+             --connections 1",
+            "Serve(Serve { table: \"a.toml\", revisions: [], journal: \"b\", cards: 10, \
+             capacity: 100, listen: \"c\", lines: 64, connections: Some(1), idle: None, \
+             stay_halted: false })",
+        ),
+        (
+            "serve --table a.toml --journal b --cards 10 --capacity 100 --listen c --lines 64 \
+             --connections 1000000",
+            "Serve(Serve { table: \"a.toml\", revisions: [], journal: \"b\", cards: 10, \
+             capacity: 100, listen: \"c\", lines: 64, connections: Some(1000000), idle: None, \
+             stay_halted: false })",
+        ),
+    ];
+    assert_asked(&rt, rt.alloc(), &rows);
+    let refused = [
+        "serve --table a --journal b --cards 10 --capacity 9 --listen c --lines 64 --connections 0",
+        "serve --table a --journal b --cards 10 --capacity 9 --listen c --lines 64 \
+         --connections 1000001",
+        "serve --table a --journal b --cards 10 --capacity 9 --listen c --lines 64 --connections x",
+        "serve --table a --journal b --cards 10 --capacity 9 --listen c --lines 64 --connections +5",
+    ];
+    assert_refused(&rt, rt.alloc(), &refused);
+}
+
+#[test]
+fn a_server_needs_its_tables_its_journal_and_its_numbers(rt: HostRuntime) {
+    let rows = [
+        (
+            "serve --table fares.toml --journal station.journal --cards 10 --capacity 100 \
+             --listen 127.0.0.1:0 --lines 64 --connections 2",
+            "Serve(Serve { table: \"fares.toml\", revisions: [], journal: \"station.journal\", \
+             cards: 10, capacity: 100, listen: \"127.0.0.1:0\", lines: 64, connections: Some(2), \
+             idle: None, stay_halted: false })",
+        ),
+        (
+            "serve --table fares.toml --journal station.journal --cards 10 --capacity 100 \
+             --listen 127.0.0.1:0 --lines 64 --connections 2 --idle 600 --stay-halted",
+            "Serve(Serve { table: \"fares.toml\", revisions: [], journal: \"station.journal\", \
+             cards: 10, capacity: 100, listen: \"127.0.0.1:0\", lines: 64, connections: Some(2), \
+             idle: Some(600), stay_halted: true })",
+        ),
+    ];
+    assert_asked(&rt, rt.alloc(), &rows);
+    let refused = [
+        "serve --table a --journal b --cards 10 --capacity 9 --listen c --lines 0",
+        "serve --table a --journal b --cards 10 --capacity 9 --listen c --lines 65",
+        "serve --table a --journal b --cards 10 --capacity 9 --listen c --lines +2",
+        "serve --table a --journal b --cards 10 --capacity 9 --listen c --lines -1",
+        "serve --table a --journal b --cards 10 --capacity 9 --listen c --lines x",
+        "serve --table a --journal b --cards 10 --capacity 9 --listen c",
+    ];
+    assert_refused(&rt, rt.alloc(), &refused);
+}
+
+#[test]
+fn a_migration_needs_all_its_options(rt: HostRuntime) {
+    let rows = [(
+        "migrate --table fares.toml --from old.journal --to new.journal --cards 10",
+        "Migrate(Migrate { table: \"fares.toml\", from: \"old.journal\", to: \"new.journal\", \
+         cards: 10 })",
+    )];
+    assert_asked(&rt, rt.alloc(), &rows);
+    let refused = [
+        "migrate --table fares.toml --from old.journal --to new.journal --cards 10 b.toml",
+        "migrate --table fares.toml --from old.journal --to new.journal",
+    ];
+    assert_refused(&rt, rt.alloc(), &refused);
+}
+
+#[test]
+fn a_verification_needs_a_journal_alone(rt: HostRuntime) {
+    let rows = [
+        (
+            "verify --journal a.journal",
+            "Verify(Verify { journal: \"a.journal\", table: None, revisions: [], seal: Unasked })",
+        ),
+        (
+            "verify --journal a.journal --table a.toml --seal b.toml c.toml",
+            "Verify(Verify { journal: \"a.journal\", table: Some(\"a.toml\"), \
+             revisions: [\"b.toml\", \"c.toml\"], seal: Made })",
+        ),
+    ];
+    assert_asked(&rt, rt.alloc(), &rows);
+    assert_refused(&rt, rt.alloc(), &["verify"]);
+}
+
+#[test]
+fn a_journal_is_held_against_a_number_and_a_digest(rt: HostRuntime) {
+    let rows = [
+        (
+            "verify --journal a --sealed 0 \
+             000102030405060708090a0b0c0d0e0f101112131415161718191A1B1C1D1E1F",
+            "Verify(Verify { journal: \"a\", table: None, revisions: [], \
+             seal: Kept { touches: 0, digest: [0, 1, 2, 3, 4, 5, 6, 7, 8, 9, 10, 11, 12, 13, 14, \
+             15, 16, 17, 18, 19, 20, 21, 22, 23, 24, 25, 26, 27, 28, 29, 30, 31] } })",
+        ),
+        (
+            "verify --journal a --sealed 17 \
+             000102030405060708090a0b0c0d0e0f101112131415161718191A1B1C1D1E1F",
+            "Verify(Verify { journal: \"a\", table: None, revisions: [], \
+             seal: Kept { touches: 17, digest: [0, 1, 2, 3, 4, 5, 6, 7, 8, 9, 10, 11, 12, 13, \
+             14, 15, 16, 17, 18, 19, 20, 21, 22, 23, 24, 25, 26, 27, 28, 29, 30, 31] } })",
+        ),
+        (
+            "verify --journal a --sealed 1000000 \
+             000102030405060708090a0b0c0d0e0f101112131415161718191A1B1C1D1E1F",
+            "Verify(Verify { journal: \"a\", table: None, revisions: [], \
+             seal: Kept { touches: 1000000, digest: [0, 1, 2, 3, 4, 5, 6, 7, 8, 9, 10, 11, 12, \
+             13, 14, 15, 16, 17, 18, 19, 20, 21, 22, 23, 24, 25, 26, 27, 28, 29, 30, 31] } })",
+        ),
+    ];
+    assert_asked(&rt, rt.alloc(), &rows);
+    let refused = [
+        "verify --journal a --sealed 1000001 \
+         000102030405060708090a0b0c0d0e0f101112131415161718191A1B1C1D1E1F",
+        "verify --journal a --sealed +1 \
+         000102030405060708090a0b0c0d0e0f101112131415161718191A1B1C1D1E1F",
+        "verify --journal a --sealed -1 \
+         000102030405060708090a0b0c0d0e0f101112131415161718191A1B1C1D1E1F",
+        "verify --journal a --sealed x \
+         000102030405060708090a0b0c0d0e0f101112131415161718191A1B1C1D1E1F",
+        "verify --journal a --sealed 1 00",
+        "verify --journal a --sealed 1 x",
+    ];
+    assert_refused(&rt, rt.alloc(), &refused);
+}
+
+#[test]
+fn a_seal_is_asked_for_once_and_whole(rt: HostRuntime) {
+    let rows = [(
+        "verify --journal a --table a.toml --sealed 1 \
+         000102030405060708090a0b0c0d0e0f101112131415161718191A1B1C1D1E1F b.toml",
+        "Verify(Verify { journal: \"a\", table: Some(\"a.toml\"), revisions: [\"b.toml\"], \
+         seal: Kept { touches: 1, digest: [0, 1, 2, 3, 4, 5, 6, 7, 8, 9, 10, 11, 12, 13, 14, \
+         15, 16, 17, 18, 19, 20, 21, 22, 23, 24, 25, 26, 27, 28, 29, 30, 31] } })",
+    )];
+    assert_asked(&rt, rt.alloc(), &rows);
+    let refused = [
+        "verify --journal a.journal --sealed",
+        "verify --journal a.journal --sealed 1",
+        "verify --journal a.journal --seal --sealed 1 \
+         000102030405060708090a0b0c0d0e0f101112131415161718191A1B1C1D1E1F",
+        "verify --journal a.journal b.toml",
+    ];
+    assert_refused(&rt, rt.alloc(), &refused);
+}
+
+#[test]
+fn a_word_that_is_no_text_is_a_wrong_command_line(rt: HostRuntime) -> Result<(), Fail> {
+    assert_eq!(rt; refuse_bytes(rt.alloc())?.exit_code(), 2);
+    Ok(())
+}
