@@ -12,7 +12,10 @@ use Rattle.journal_audit.specs.declared.fault.AuditFault.{AuditFault}
 use Rattle.journal_audit.specs.declared.fault.AuditFault.TheVariants as audits
 use Rattle.journal_audit.specs.declared.seal.Seal.{Seal}
 use Rattle.journal_audit.specs.declared.seal.Seal.TheVariants as seals
+use Rattle.gate_service.specs.declared.fault.ServeFault.{ServeFault}
+use Rattle.gate_service.specs.declared.fault.ServeFault.TheVariants as serves
 use Rattle.line_replay.specs.declared.fault.RunFault.TheVariants as runs
+use Rattle.tap_office.specs.declared.fault.CloseCause.TheVariants as closes
 use Rattle.tap_server.specs.Detail.{no_detail}
 use Rattle.tap_server.specs.declared.fault.CommandFault.{CommandFault}
 use Rattle.tap_server.specs.declared.fault.CommandFault.TheVariants.{Run, Table, Supply, Journal}
@@ -29,6 +32,13 @@ audit_fault audits.Memory = Run runs.Memory
 audit_fault audits.Write = Run runs.Write
 audit_fault (audits.Journal fault) = Journal fault
 audit_fault (audits.Seal fault) = faults.Seal fault
+
+-- want of memory, and a write that failed, are faults of the run; an office that wasn't closed is told by its cause
+abbrev pub serve_fault : ServeFault → CommandFault
+serve_fault serves.Memory = Run runs.Memory
+serve_fault serves.Write = Run runs.Write
+serve_fault (serves.Close closes.SeatMissing) = faults.SeatMissing
+serve_fault (serves.Close closes.Mismatch) = faults.Mismatch
 
 -- what a command line asks of the seal is what the audit is asked
 abbrev pub seal_asked : AskedSeal → Seal

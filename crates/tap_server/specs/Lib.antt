@@ -1,8 +1,4 @@
-pub mod Tally
-pub mod Notice
-pub mod Report
-pub mod Clerk
-pub mod Post
+pub mod Migrated
 pub mod Command
 pub mod Journals
 pub mod Check

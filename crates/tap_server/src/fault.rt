@@ -3,7 +3,7 @@
 ghost use Rattle.std.specs.Prelude.{◌≡◌};
 ghost use Rattle.line_replay.specs.declared.fault.RunFault.TheVariants.{Memory};
 ghost use Rattle.tap_server.specs.declared.fault.CommandFault.TheVariants.{Journal, Migrate, Run};
-ghost use Rattle.tap_server.specs.Command.{command_fault, audit_fault};
+ghost use Rattle.tap_server.specs.Command.{command_fault, audit_fault, serve_fault};
 ghost use Rattle.tap_server.specs.Journals.{history_fault, balances_fault};
 
 use crate::detail::Detail;
@@ -11,6 +11,7 @@ use clap::Error as LineError;
 use clap::error::ErrorKind;
 use fare_schedule::SupplyFault;
 use fare_table::TableFault;
+use gate_service::ServeFault;
 use journal_audit::{AuditFault, SealFault};
 use journal_balances::BalancesFault;
 use journal_history::HistoryFault;
@@ -161,11 +162,15 @@ impl From<BalancesFault> for CommandFault {
     }
 }
 
-impl From<CloseCause> for CommandFault {
-    fn from(cause: CloseCause) -> CommandFault {
-        match cause {
-            CloseCause::SeatMissing => CommandFault::SeatMissing,
-            CloseCause::Mismatch => CommandFault::Mismatch,
+impl From<ServeFault> for CommandFault {
+    ghost from_gives = { λ given fault. fault ≡ serve_fault given };
+
+    fn from(fault: ServeFault) -> CommandFault {
+        match fault {
+            ServeFault::Memory => CommandFault::Run(RunFault::Memory),
+            ServeFault::Write => CommandFault::Run(RunFault::Write),
+            ServeFault::Close(CloseCause::SeatMissing) => CommandFault::SeatMissing,
+            ServeFault::Close(CloseCause::Mismatch) => CommandFault::Mismatch,
         }
     }
 }

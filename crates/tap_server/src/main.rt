@@ -7,24 +7,17 @@ ghost use Rattle.command_line.specs.Arguments.{IsWithin};
 
 mod audit;
 mod balances;
-mod begun;
 mod behind;
 mod check;
-mod clerk;
 mod detail;
 mod fault;
-mod gate_line;
 mod history;
 mod migrate;
 mod notes;
-mod notice;
-mod post;
 mod refusal;
-mod report;
 mod server;
 mod standard;
 mod tables;
-mod tally;
 
 use crate::audit::verify_journal;
 use crate::balances::tell_balances;

@@ -1,25 +1,18 @@
 //! The command `serve`: the office of a journal, served to gates over TCP.
 
-ghost use Rattle.std.specs.Prelude.{◌≡◌, ◌≤◌, ◌^◌, [], length, map, reverse, vec_capacity, IfOk};
-ghost use Rattle.std.specs.List.{All};
 ghost use Rattle.tap_office.specs.Name.{IsNameOf};
 ghost use Rattle.tap_office.specs.Opening.{opened_of};
 ghost use Rattle.command_line.specs.Arguments.{IsServeAllowed};
-ghost use Rattle.tap_server.specs.Tally.{IsBelow};
 
 use crate::behind::{slots_behind, tell_behind};
 use crate::detail::Detail;
 use crate::fault::CommandFault;
-use crate::gate_line::{GateLine, TcpLines};
-use crate::notice::{Notices, Watch};
-use crate::post::{Post, serve_all};
 use crate::refusal::{journal_fault, listen_fault};
-use crate::report::{write_opened, write_report};
 use crate::tables::{first_table, schedule_of};
-use crate::tally::Tally;
 use command_line::Serve;
+use gate_service::{Notices, TcpLines, make_posts, serve_office};
 use line_replay::RunFault;
-use std::alloc::{AllocError, Global};
+use std::alloc::Global;
 use std::fs::File;
 use std::io;
 use std::io::{BufWriter, Write};
@@ -34,11 +27,8 @@ use std::thread::Threads;
 use std::time::{Clock, Duration};
 use tap_disk::{Disk, FileDisk};
 use tap_journal::{Journal, JournalFault};
-use tap_office::{Closed, Desk, Named, Office, Opening, Seat};
+use tap_office::{Desk, Named, Office, Opening, Seat};
 use tcp_line::TcpLine;
-
-/// How many reads a session makes at most.
-const TURNS: u32 = 1_000_000;
 
 /// Opens the office of a journal, which is made where its file is empty, serves gates until all lines
 /// are done, closes the office and writes the report. The tables are looked at before the journal,
@@ -119,6 +109,32 @@ fn serve_opening<
         Ok(listener) => listener,
         Err(error) => return Err(listen_fault(alloc, asked.listen, &error)),
     };
+    let halted = serve_listener(rt, office, seats, desks, &listener, capacity, asked)?;
+    Ok(status_of(halted))
+}
+
+/// Serves an office to the gates of a listener, and answers whether the journal's disk has failed.
+fn serve_listener<
+    N: Named + Send + Sync,
+    D: Disk + Drop + Send,
+    R: AllocGlobal
+        + Net<Listener = TcpListener, Stream = TcpStream>
+        + Clock
+        + Threads
+        + Wait
+        + Sync
+        + Print
+        + Eprint,
+>(
+    rt: &R,
+    office: Office<N, D>,
+    seats: Vec<Seat<N>>,
+    desks: Vec<Desk<N>>,
+    listener: &TcpListener,
+    capacity: u32,
+    asked: &Serve<'_>,
+) -> Result<bool, CommandFault> {
+    let alloc = rt.alloc();
     let told = AtomicBool::new(false);
     let lines = TcpLines {
         ended: AtomicBool::new(false),
@@ -130,19 +146,29 @@ fn serve_opening<
         Some(&lines)
     };
     let watch = Notices::new(rt, ends, asked.lines, capacity, office.opened());
-    let line = TcpLine::new(rt, &listener, &told, &lines.ended, idle_of(asked));
+    let line = TcpLine::new(rt, listener, &told, &lines.ended, idle_of(asked));
     let posts = make_posts(alloc, &line, seats, desks)?;
-    let listening = listening_line(alloc, &listener)?;
+    let listening = listening_line(alloc, listener)?;
     let mut output = output_of(alloc, io::writer(rt))?;
-    serve_office(
+    let connections = connections_of(asked);
+    Ok(serve_office(
         rt,
         office,
         &watch,
         posts,
         &listening,
         &mut output,
-        connections_of(asked),
-    )
+        connections,
+    )?)
+}
+
+/// The status of a server that has ended: 1 where the journal's disk has failed.
+fn status_of(halted: bool) -> ExitCode {
+    if halted {
+        ExitCode::from(1)
+    } else {
+        ExitCode::SUCCESS
+    }
 }
 
 /// For how long a gate is waited for, where one is ever given up.
@@ -173,121 +199,4 @@ fn listening_line(alloc: Global, listener: &TcpListener) -> Result<String, Comma
 /// A writer to standard output that has its memory already.
 fn output_of<W: Write + Drop>(alloc: Global, writer: W) -> Result<BufWriter<W>, RunFault> {
     BufWriter::new(alloc, writer).map_err(|_| RunFault::Memory)
-}
-
-/// Serves an office's posts, closes it, and writes the report. From the first connection on it
-/// takes no memory of its own. The status is 1 where the journal's disk has failed.
-///
-/// Standard error may be closed: the line that tells of the listening is lost then.
-fn serve_office<
-    L: GateLine + Drop + Send,
-    N: Named + Send + Sync,
-    D: Disk + Drop + Send,
-    T: Watch + Sync,
-    W: Write,
-    R: AllocGlobal + Threads + Wait + Sync + Eprint,
->(
-    rt: &R,
-    office: Office<N, D>,
-    watch: &T,
-    posts: Vec<Post<L, N>>,
-    listening: &str,
-    output: &mut W,
-    connections: u64,
-) -> Result<ExitCode, CommandFault>
-    requires { All (λ post. IsBelow (2 ^ 62) post.tally) posts.items }
-{
-    let alloc = rt.alloc();
-    let mut posts = posts;
-    let seats = Vec::with_capacity(alloc, posts.len())?;
-    let tallies = Vec::with_capacity(alloc, posts.len())?;
-    let _ = rt.eprintln(listening);
-    write_opened(output, office.opened()).map_err(|_| RunFault::Write)?;
-    serve_all(
-        rt,
-        alloc,
-        &office,
-        watch,
-        posts.as_mut_slice(),
-        connections,
-        TURNS,
-    );
-    let tallies = tallies_of(posts.as_slice(), tallies);
-    match office.close(rt, seats_of(posts, seats)) {
-        Ok(closed) => finish(output, tallies.as_slice(), &closed),
-        Err(fault) => Err(fault.cause.into()),
-    }
-}
-
-/// The posts of a server: a line like this one for each seat, with its desk.
-fn make_posts<'a, N: Named, R: Clock + Eprint>(
-    alloc: Global,
-    line: &TcpLine<'a, R, TcpListener>,
-    seats: Vec<Seat<N>>,
-    desks: Vec<Desk<N>>,
-) -> Result<Vec<Post<TcpLine<'a, R, TcpListener>, N>>, AllocError>
-    ensures { IfOk result (λ posts. All (λ post. IsBelow (2 ^ 62) post.tally) posts.items) }
-{
-    let mut posts = Vec::with_capacity(alloc, seats.len())?;
-    for (seat, desk) in seats.into_iter().zip(desks) {
-        posts.push(new_post(line.another(), seat, desk))?;
-    }
-    Ok(posts)
-}
-
-/// A post whose line has served nobody yet.
-pub(crate) fn new_post<L, N: Named>(line: L, seat: Seat<N>, desk: Desk<N>) -> Post<L, N>
-    ensures { IsBelow (2 ^ 62) result.tally }
-{
-    Post {
-        line,
-        seat,
-        desk,
-        tally: Tally::new(),
-    }
-}
-
-/// What the posts' lines came to, in the place that is ready for it.
-pub(crate) fn tallies_of<L, N: Named>(posts: &[Post<L, N>], ready: Vec<Tally>) -> Vec<Tally>
-    requires empty { ready.items ≡ [] }
-    requires room { length posts.now ≤ vec_capacity ready }
-    ensures { result.items ≡ map (λ post. post.tally) posts.now }
-{
-    let mut tallies = ready;
-    for post in posts {
-        tallies.push_reserved(post.tally);
-    }
-    tallies
-}
-
-/// The posts' seats, in the place that is ready for them, the last post's first.
-pub(crate) fn seats_of<L: Drop, N: Named>(
-    posts: Vec<Post<L, N>>,
-    ready: Vec<Seat<N>>,
-) -> Vec<Seat<N>>
-    requires empty { ready.items ≡ [] }
-    requires room { length posts.items ≤ vec_capacity ready }
-    ensures { result.items ≡ map (λ post. post.seat) (reverse posts.items) }
-{
-    let mut posts = posts;
-    let mut seats = ready;
-    while let Some(post) = posts.pop() {
-        let Post { seat, .. } = post;
-        seats.push_reserved(seat);
-    }
-    seats
-}
-
-/// Writes the report, and answers the status: 1 where the journal's disk has failed.
-fn finish<D, W: Write>(
-    output: &mut W,
-    tallies: &[Tally],
-    closed: &Closed<D>,
-) -> Result<ExitCode, CommandFault> {
-    write_report(output, tallies, closed.halted, closed.book.len()).map_err(|_| RunFault::Write)?;
-    if closed.halted {
-        Ok(ExitCode::from(1))
-    } else {
-        Ok(ExitCode::SUCCESS)
-    }
 }

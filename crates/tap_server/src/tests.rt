@@ -1,36 +1,17 @@
 mod check;
 mod fakes;
-mod notices;
-mod report;
-mod scripts;
-mod serve;
-mod sessions;
 
 use crate::detail::Detail;
 use crate::fault::CommandFault;
-use fare_schedule::{Schedule, SupplyFault};
-use fare_table::{EXAMPLE_TABLE, Fares, TableFault};
+use crate::migrate::write_migrated;
+use fare_schedule::SupplyFault;
+use fare_table::TableFault;
+use gate_service::ServeFault;
 use line_replay::RunFault;
-use std::alloc::Global;
 use std::process::Abort;
-use tap_disk::{Choice, MemoryDisk};
-use tap_journal::{Journal, JournalFault, MigrateCause};
-use tap_office::{CloseCause, Opening};
-
-/// A disk in memory with a new journal of a table, for so many touches of 10 cards.
-fn new_disk(alloc: Global, digest: &[u8; 32], capacity: u32) -> Option<MemoryDisk> {
-    let disk = MemoryDisk::new(alloc).ok()?;
-    let journal = Journal::create(disk, capacity, 10, digest).ok()?;
-    journal.close().crash(Choice::New).ok()
-}
-
-/// The opening of a new journal for so many touches, by the example table.
-fn new_opening(alloc: Global, capacity: u32, seats: u16) -> Option<Opening<MemoryDisk>> {
-    let fares = Fares::read(alloc, EXAMPLE_TABLE).ok()?;
-    let disk = new_disk(alloc, &fares.digest(), capacity)?;
-    let schedule = Schedule::new(alloc, fares).ok()?;
-    Opening::read(alloc, disk, schedule, 10, seats).ok()
-}
+use std::test::Fail;
+use tap_journal::{JournalFault, MigrateCause};
+use tap_office::CloseCause;
 
 /// The fault is told in this line.
 fn assert_told<R: AllocGlobal + Abort>(rt: &R, fault: CommandFault, line: &str) {
@@ -65,6 +46,15 @@ fn a_fault_of_a_part_is_told_as_the_commands(rt: HostRuntime) {
     assert_told(&rt, missing.into(), "fault journal 13 MissingTable 4");
     let old = MigrateCause::Old(JournalFault::WrongTable);
     assert_told(&rt, old.into(), "fault migrate 3 Old 5 WrongTable");
-    let seats = CloseCause::SeatMissing;
+    let seats = ServeFault::Close(CloseCause::SeatMissing);
     assert_told(&rt, seats.into(), "fault close 1 SeatMissing");
+    assert_told(&rt, ServeFault::Write.into(), "fault run 3 Write");
+}
+
+#[test]
+fn a_migrated_journal_is_told_in_a_line(rt: HostRuntime) -> Result<(), Fail> {
+    let mut written = Vec::new(rt.alloc());
+    write_migrated(&mut written, 1_000_000)?;
+    assert_eq!(rt; written.as_slice(), "migrated 1000000\n".as_bytes());
+    Ok(())
 }

@@ -1,0 +1,5 @@
+pub mod TallyLemmas
+pub mod PostLemmas
+pub mod ServingLemmas
+pub mod ReportLemmas
+pub mod LeftLemmas

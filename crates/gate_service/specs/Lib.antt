@@ -1,0 +1,5 @@
+pub mod Tally
+pub mod Notice
+pub mod Report
+pub mod Clerk
+pub mod Post

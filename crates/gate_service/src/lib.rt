@@ -1,0 +1,25 @@
+//! The gates of a station, served from its office: all lines at once, on each one connection after the
+//! other. Its main promises are that each answer of a session is its request's (`OfficeClerk`), and
+//! that of `serve_all`: each line keeps its seat and its desk, and counts its sessions.
+#![tactic(auto)]
+
+mod begun;
+mod clerk;
+mod fault;
+mod gate_line;
+mod notice;
+mod post;
+mod posts;
+mod report;
+mod serving;
+mod tally;
+
+pub use clerk::OfficeClerk;
+pub use fault::ServeFault;
+pub use gate_line::{GateLine, TcpLines};
+pub use notice::{Lines, Notice, Notices, Watch};
+pub use post::{Post, serve_all};
+pub use posts::{make_posts, new_post, seats_of, tallies_of};
+pub use report::{write_opened, write_report};
+pub use serving::serve_office;
+pub use tally::Tally;

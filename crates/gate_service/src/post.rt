@@ -1,0 +1,171 @@
+//! The posts of a server: each serves the connections of one line, one after the other, at a seat of
+//! the office.
+
+ghost use Rattle.std.specs.Prelude.{◌≡◌, ◌<◌, ◌≤◌, ◌*◌, ◌^◌, ℕ, length, slice_index_or};
+ghost use Rattle.std.specs.List.{All};
+ghost use Rattle.std.specs.Thread.{IsSync};
+ghost use Rattle.gate_session.specs.Session.{HasCounted};
+ghost use Rattle.gate_service.specs.Clerk.{GoesOn, DeskGoesOn};
+ghost use Rattle.gate_service.specs.Post.{HasServed};
+ghost use Rattle.gate_service.specs.Tally.{IsBelow};
+
+use crate::clerk::OfficeClerk;
+use crate::gate_line::GateLine;
+use crate::notice::Watch;
+use crate::tally::Tally;
+use gate_session::{Served, serve};
+use std::alloc::Global;
+use std::io::{Read, Write};
+use std::sync::Wait;
+use std::thread;
+use std::thread::Threads;
+use tap_disk::Disk;
+use tap_office::{Desk, Named, Office, Seat};
+
+/// A line, with the seat and the desk from which its gates are answered, and what came of it so far.
+#[derive(Drop)]
+pub struct Post<L, N: Named> {
+    /// The line.
+    pub line: L,
+    /// Where its touches are committed.
+    pub seat: Seat<N>,
+    /// Where its balances are asked for.
+    pub desk: Desk<N>,
+    /// What its sessions came to.
+    pub tally: Tally,
+}
+
+/// Serves all posts, each in a thread of its own where one can be made, and the others one after the
+/// other. Each serves up to so many connections, by up to so many reads each, 1000000 at most, until
+/// its line has no more, or one of its counts is above 2^62.
+///
+/// It waits for gates. No post's counts are above 2^62 at first.
+pub fn serve_all<
+    L: GateLine + Send,
+    N: Named + Send + Sync,
+    D: Disk + Drop + Send,
+    T: Watch + Sync,
+    R: Threads + Wait + Sync,
+>(
+    rt: &R,
+    alloc: Global,
+    office: &Office<N, D>,
+    watch: &T,
+    posts: &mut [Post<L, N>],
+    connections: u64,
+    turns: u32,
+)
+    requires turns { turns ≤ 1_000_000 }
+    requires below { All (λ post. IsBelow (2 ^ 62) post.tally) posts.old }
+    ensures { (place : ℕ) (other : _) → place < length posts.old → HasServed connections
+        (L.given (slice_index_or posts.old place other).line)
+        (L.given (slice_index_or posts.new place other).line)
+        (slice_index_or posts.old place other).tally (slice_index_or posts.new place other).tally
+        (slice_index_or posts.old place other).seat (slice_index_or posts.new place other).seat
+        (slice_index_or posts.old place other).desk (slice_index_or posts.new place other).desk }
+{
+    let threads = posts.len().max(1);
+    thread::for_each_mut(
+        rt,
+        posts,
+        threads,
+        &|_, post: &mut Post<L, N>|
+            requires sync { IsSync R.row }
+            requires turns { turns ≤ 1_000_000 }
+            requires below { IsBelow (2 ^ 62) post.now.tally }
+            ensures { HasServed connections (L.given post.entry.now.line)
+                (L.given post.exit.now.line) post.entry.now.tally post.exit.now.tally
+                post.entry.now.seat post.exit.now.seat post.entry.now.desk post.exit.now.desk }
+        { serve_post(rt, alloc, office, watch, post, connections, turns) },
+    );
+}
+
+/// Serves the connections of a post, one after the other.
+fn serve_post<L: GateLine, N: Named, D: Disk, T: Watch, R: Wait>(
+    rt: &R,
+    alloc: Global,
+    office: &Office<N, D>,
+    watch: &T,
+    post: &mut Post<L, N>,
+    connections: u64,
+    turns: u32,
+)
+    requires turns { turns ≤ 1_000_000 }
+    requires below { IsBelow (2 ^ 62) post.old.tally }
+    ensures { HasServed connections (L.given post.old.line) (L.given post.new.line)
+        post.old.tally post.new.tally post.old.seat post.new.seat post.old.desk post.new.desk }
+{
+    let Post {
+        line,
+        seat,
+        desk,
+        tally,
+    } = post;
+    watch.begun();
+    for _ in 0..connections {
+        if !tally.has_room() {
+            return;
+        }
+        let Some((mut reader, mut writer)) = line.connect() else {
+            return;
+        };
+        watch.connected();
+        let served = serve_connection(
+            rt,
+            alloc,
+            office,
+            watch,
+            seat,
+            desk,
+            &mut reader,
+            &mut writer,
+            turns,
+        );
+        tally.count(&served);
+    }
+}
+
+/// Serves one connection.
+fn serve_connection<I: Read, O: Write, N: Named, D: Disk, T: Watch, R: Wait>(
+    rt: &R,
+    alloc: Global,
+    office: &Office<N, D>,
+    watch: &T,
+    seat: &mut Seat<N>,
+    desk: &mut Desk<N>,
+    reader: &mut I,
+    writer: &mut O,
+    turns: u32,
+) -> Served
+    ensures seat { GoesOn result.requests seat.old seat.new }
+    ensures desk { DeskGoesOn result.requests desk.old desk.new }
+    ensures counts { HasCounted result.end result.requests result.answers }
+    ensures few { result.requests ≤ 512 * turns }
+{
+    let mut clerk = OfficeClerk {
+        office,
+        watch,
+        seat,
+        desk,
+    };
+    serve_clerk(rt, alloc, &mut clerk, reader, writer, turns)
+}
+
+/// Serves one connection by its clerk, who keeps the same seat and desk.
+fn serve_clerk<I: Read, O: Write, N: Named, D: Disk, T: Watch, R: Wait>(
+    rt: &R,
+    alloc: Global,
+    clerk: &mut OfficeClerk<'_, N, D, T>,
+    reader: &mut I,
+    writer: &mut O,
+    turns: u32,
+) -> Served
+    ensures same_seat { clerk.new.seat.ghost_name ≡ clerk.old.seat.ghost_name }
+    ensures same_desk { clerk.new.desk.ghost_name ≡ clerk.old.desk.ghost_name }
+    ensures seat { GoesOn result.requests clerk.old.seat.now clerk.new.seat.now }
+    ensures desk { DeskGoesOn result.requests clerk.old.desk.now clerk.new.desk.now }
+    ensures counts { HasCounted result.end result.requests result.answers }
+    ensures few { result.requests ≤ 512 * turns }
+{
+    serve(rt, alloc, reader, writer, clerk, turns)
+}

@@ -1,0 +1,13 @@
+use Rattle.std.proofs.Common.{Some}
+use Rattle.tap_office.specs.Opening.{opened_of}
+use Rattle.gate_service_tests.proofs.tests.sessions.tried.Given as goal
+
+abbrev pub ghosts-sessions-N-Named : goal.ghosts-sessions-N-Named
+ghosts-sessions-N-Named g a = record { opened = opened_of a.opening }
+
+abbrev pub ghosts-sessions-N-Ledger : goal.ghosts-sessions-N-Ledger
+ghosts-sessions-N-Ledger g a = record { name = a.opening.receipts; parts = a.opening.seats }
+
+abbrev pub ghosts-sessions-N-StoryName : goal.ghosts-sessions-N-StoryName
+ghosts-sessions-N-StoryName g a =
+    record { story = a.opening.story; table = Some (a.opening.tables, a.opening.header.cards) }
