@@ -15,6 +15,3 @@ pub use audit::audit_journal;
 pub use fault::{AuditFault, SealFault};
 pub use seal::{Seal, Sealed};
 pub use touches::{digest_of_first, enter_touches};
-
-#[cfg(test)]
-mod tests;

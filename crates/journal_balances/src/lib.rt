@@ -13,6 +13,3 @@ mod totals;
 pub use balances::write_balances;
 pub use fault::BalancesFault;
 pub use totals::Totals;
-
-#[cfg(test)]
-mod tests;

@@ -17,6 +17,3 @@ mod wanted;
 pub use fault::HistoryFault;
 pub use history::write_history;
 pub use wanted::{HistoryFormat, Wanted};
-
-#[cfg(test)]
-mod tests;

@@ -15,6 +15,3 @@ pub use fault::RunFault;
 pub use laws::lines_of_requests;
 pub use replay::replay_text;
 pub use stream::read_all;
-
-#[cfg(test)]
-mod tests;

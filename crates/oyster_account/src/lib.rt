@@ -31,6 +31,3 @@ pub use touch::{
 };
 pub use travel::{Passage, SECONDS_PER_MINUTE};
 pub use verdict::{Acceptance, FIRST_REFUSAL, Refusal};
-
-#[cfg(test)]
-mod tests;

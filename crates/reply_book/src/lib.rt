@@ -18,6 +18,3 @@ pub use laws::{
     refusals_change_nothing, revisions_alone_revise, revisions_are_unseen, travel_never_back,
     travel_stays,
 };
-
-#[cfg(test)]
-mod tests;

@@ -1,0 +1,215 @@
+//! What no clause says of replays: worked lines, the texts of answers, and what stands where a
+//! read, a write or an allocation fails.
+
+mod fakes;
+mod journeys;
+mod memory;
+mod revision;
+mod rows;
+mod stream;
+
+ghost use Rattle.std.specs.Prelude.{◌≡◌, [], IfSome};
+ghost use Rattle.fare_schedule.specs.Schedule.{revisions_of};
+
+use fakes::{Pieces, Taker};
+use fare_schedule::Schedule;
+use fare_table::{EXAMPLE_TABLE, Fares};
+use line_replay::{RunFault, replay_text};
+use rows::{ASKED_AGAIN, FIRST_PATH, MISSING_TOUCHES, REFUSALS};
+use std::alloc::{AllocError, Global};
+use std::io::{Read, Write};
+use std::test::Fail;
+
+/// A line that is asked, and the line that answers it.
+type Row = (&'static str, &'static str);
+
+/// The lines of some rows, each with its line feed: those that are read, or those written.
+fn lines_of(alloc: Global, rows: &[Row], written: bool) -> Result<Vec<u8>, AllocError> {
+    let mut text = Vec::new(alloc);
+    for row in rows {
+        let (asked, answered) = *row;
+        let line = if written { answered } else { asked };
+        text.extend_from_slice(line.as_bytes())?;
+        text.push(b'\n')?;
+    }
+    Ok(text)
+}
+
+/// A schedule of the example table alone. There is none for want of memory.
+fn example(alloc: Global) -> Option<Schedule>
+    ensures { IfSome result (λ schedule. revisions_of schedule ≡ []) }
+{
+    let first = Fares::read(alloc, EXAMPLE_TABLE).ok()?;
+    Schedule::new(alloc, first).ok()
+}
+
+/// How a replay by the example table ends, on ten cards.
+fn run<R: Read, W: Write>(
+    alloc: Global,
+    reader: &mut R,
+    writer: &mut W,
+    turns: u32,
+) -> Result<Result<(), RunFault>, Fail> {
+    let schedule = example(alloc).ok_or("a schedule")?;
+    Ok(replay_text(alloc, schedule, 10, reader, writer, turns))
+}
+
+/// What is written for bytes that come in one piece, and how the run ends.
+fn replayed(alloc: Global, bytes: &[u8]) -> Result<(Vec<u8>, Result<(), RunFault>), Fail> {
+    let mut reader = bytes;
+    let mut written = Vec::new(alloc);
+    let ended = run(alloc, &mut reader, &mut written, 1_000)?;
+    Ok((written, ended))
+}
+
+#[test]
+fn worked_lines_get_their_answers(rt: HostRuntime) -> Result<(), Fail> {
+    let alloc = rt.alloc();
+    let mut asked_again = FIRST_PATH.to_vec(alloc)?;
+    asked_again.extend_from_slice(&ASKED_AGAIN)?;
+    let tables: [&[Row]; 5] = [
+        &[],
+        &FIRST_PATH,
+        asked_again.as_slice(),
+        &MISSING_TOUCHES,
+        &REFUSALS,
+    ];
+    for rows in tables {
+        let (written, ended) = replayed(alloc, lines_of(alloc, rows, false)?.as_slice())?;
+        let count = rows.len();
+        assert_eq!(rt; ended, Ok(()), "{count} rows");
+        assert_eq!(rt;
+            written.as_slice(),
+            lines_of(alloc, rows, true)?.as_slice(),
+            "{count} rows"
+        );
+    }
+    Ok(())
+}
+
+#[test]
+fn digits_of_either_case_and_a_last_line_without_a_line_feed_are_read(
+    rt: HostRuntime,
+) -> Result<(), Fail> {
+    let alloc = rt.alloc();
+    let (written, ended) = replayed(alloc, b"0005050000000a\n0005050000000B")?;
+    assert_eq!(rt; ended, Ok(()));
+    let vacant = b"000e8500000000000000000000000000\n000e8500000000000000000000000000\n";
+    assert_eq!(rt; written.as_slice(), vacant.as_slice());
+    Ok(())
+}
+
+#[test]
+fn a_bad_line_is_answered_by_its_fault_and_ends_the_run(rt: HostRuntime) -> Result<(), Fail> {
+    let alloc = rt.alloc();
+    let good =
+        b"000505000000010000000000000000000000000000000000000000000000000000000000000000000000000000000000000000000000000000000000000000000000";
+    let bad: [(&[u8], u64, usize); 10] = [
+        (b"zz\n", 1, 21),
+        (b"\n", 1, 21),
+        (b"000505000000 1\n", 1, 21),
+        (b"00050500000001\r\n", 1, 21),
+        (b"0005050000000100\n", 1, 21),
+        (b"\xff\xfe\n", 1, 21),
+        (&good[..128], 1, 21),
+        (&good[..129], 1, 21),
+        (b"00050500000001\n\n00050500000001\n", 2, 33 + 21),
+        (b"00050500000001\n00050500000001\nzz", 3, 2 * 33 + 21),
+    ];
+    for (bytes, number, size) in bad {
+        let (written, ended) = replayed(alloc, bytes)?;
+        assert_eq!(rt; ended, Err(RunFault::BadLine(number)));
+        let fault = b"0008ff01000000000000\n";
+        assert!(rt; written.ends_with(fault), "line {number}");
+        assert_eq!(rt; written.len(), size, "line {number}");
+    }
+    Ok(())
+}
+
+#[test]
+fn a_line_is_too_long_at_its_129th_byte_and_not_before(rt: HostRuntime) -> Result<(), Fail> {
+    let alloc = rt.alloc();
+    let zeros = [b'0'; 129];
+    for (size, fault) in [(128, RunFault::Read), (129, RunFault::BadLine(1))] {
+        let mut reader = Pieces {
+            rest: &zeros[..size],
+            size: 64,
+            fails: true,
+        };
+        let mut written = Vec::new(alloc);
+        let ended = run(alloc, &mut reader, &mut written, 1_000)?;
+        assert_eq!(rt; ended, Err(fault), "{size} bytes");
+    }
+    Ok(())
+}
+
+#[test]
+fn bytes_one_by_one_make_the_same_answers(rt: HostRuntime) -> Result<(), Fail> {
+    let alloc = rt.alloc();
+    let asked = lines_of(alloc, &FIRST_PATH, false)?;
+    let mut reader = Pieces {
+        rest: asked.as_slice(),
+        size: 1,
+        fails: false,
+    };
+    let mut writer = Taker {
+        taken: Vec::new(alloc),
+        size: 1,
+        left: usize::MAX,
+        fails: false,
+    };
+    let ended = run(alloc, &mut reader, &mut writer, 1_000)?;
+    assert_eq!(rt; ended, Ok(()));
+    assert_eq!(rt;
+        writer.taken.as_slice(),
+        lines_of(alloc, &FIRST_PATH, true)?.as_slice()
+    );
+    Ok(())
+}
+
+#[test]
+fn answers_stand_where_a_read_fails_or_is_one_too_many(rt: HostRuntime) -> Result<(), Fail> {
+    let alloc = rt.alloc();
+    let asked = lines_of(alloc, &FIRST_PATH, false)?;
+    let answered = lines_of(alloc, &FIRST_PATH, true)?;
+    for (fails, turns, ended) in [
+        (true, 1_000, Err(RunFault::Read)),
+        (false, 1, Err(RunFault::Read)),
+        (false, 2, Ok(())),
+    ] {
+        let mut reader = Pieces {
+            rest: asked.as_slice(),
+            size: 1_000,
+            fails,
+        };
+        let mut written = Vec::new(alloc);
+        let given = run(alloc, &mut reader, &mut written, turns)?;
+        assert_eq!(rt; given, ended, "{turns} turns");
+        assert_eq!(rt; written.as_slice(), answered.as_slice(), "{turns} turns");
+    }
+    Ok(())
+}
+
+#[test]
+fn a_beginning_stands_where_a_write_fails_or_takes_nothing(rt: HostRuntime) -> Result<(), Fail> {
+    let alloc = rt.alloc();
+    let asked = lines_of(alloc, &FIRST_PATH, false)?;
+    let answered = lines_of(alloc, &FIRST_PATH, true)?;
+    for (left, fails) in [(0, true), (45, true), (100, false), (179, true)] {
+        let mut reader = asked.as_slice();
+        let mut writer = Taker {
+            taken: Vec::new(alloc),
+            size: 7,
+            left,
+            fails,
+        };
+        let ended = run(alloc, &mut reader, &mut writer, 1_000)?;
+        assert_eq!(rt; ended, Err(RunFault::Write), "{left} bytes");
+        assert_eq!(rt; writer.taken.len(), left);
+        assert!(rt;
+            answered.starts_with(writer.taken.as_slice()),
+            "{left} bytes"
+        );
+    }
+    Ok(())
+}

@@ -1,0 +1,67 @@
+//! A replay that is refused memory.
+
+use super::lines_of;
+use super::revision::{behind, both};
+use super::rows::REVISION;
+use line_replay::{RunFault, replay_text};
+use std::alloc::Global;
+use std::io;
+use std::io::Write;
+use std::process::Abort;
+use std::test::Fail;
+
+/// How often a replay that was refused memory is begun again.
+const TRIES: u32 = 10;
+
+/// Takes bytes into an array, without memory.
+#[derive(Drop)]
+struct Room {
+    bytes: [u8; 1024],
+    size: usize,
+}
+
+impl Write for Room {
+    fn write(&mut self, buf: &[u8]) -> io::Result<usize> {
+        let rest = self.bytes.get_mut(self.size..).unwrap_or(&mut []);
+        let size = buf.len().min(rest.len());
+        rest[..size].copy_from_slice(&buf[..size]);
+        self.size = self.size.saturating_add(size);
+        Ok(size)
+    }
+
+    fn flush(&mut self) -> io::Result<()> {
+        Ok(())
+    }
+}
+
+/// How the replay of the worked revision ends, whose answers stand as far as they were written.
+/// There is none where there was no memory for what it is given.
+fn attempt(rt: &impl Abort, alloc: Global) -> Option<Result<(), RunFault>> {
+    let rows = behind(alloc, &REVISION).ok()?;
+    let asked = lines_of(alloc, rows.as_slice(), false).ok()?;
+    let answered = lines_of(alloc, rows.as_slice(), true).ok()?;
+    let schedule = both(alloc)?;
+    let mut room = Room {
+        bytes: [0; 1024],
+        size: 0,
+    };
+    let ended = replay_text(alloc, schedule, 10, &mut asked.as_slice(), &mut room, 1_000);
+    let taken = room.bytes.get(..room.size).unwrap_or(&[]);
+    assert!(rt; answered.starts_with(taken));
+    if ended.is_ok() {
+        assert_eq!(rt; taken.len(), answered.len());
+    }
+    Some(ended)
+}
+
+#[test]
+fn a_replay_that_was_refused_memory_is_begun_again(rt: HostRuntime) -> Result<(), Fail> {
+    for _ in 0..TRIES {
+        match attempt(&rt, rt.alloc()) {
+            Some(Ok(())) => return Ok(()),
+            Some(Err(RunFault::Memory)) | None => {}
+            Some(Err(fault)) => return Err(fault.into()),
+        }
+    }
+    Err("memory is refused again and again".into())
+}

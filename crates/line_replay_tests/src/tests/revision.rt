@@ -1,0 +1,92 @@
+//! Revisions of fares by lines: to a table that is there, and to one that isn't.
+
+ghost use Rattle.std.specs.Prelude.{◌≡◌, [], IfSome};
+ghost use Rattle.fare_schedule.specs.Schedule.{revisions_of};
+
+use super::rows::{FIRST_PATH, REVISION, UNKNOWN_TABLE};
+use super::{Row, example, lines_of, replayed};
+use fare_schedule::Schedule;
+use fare_table::{EXAMPLE_TABLE, Fares};
+use line_replay::{RunFault, replay_text};
+use std::alloc::{AllocError, Global};
+use std::test::Fail;
+
+/// The texts of the example table that the revised one changes, and what comes in their place.
+const CHANGES: [(&str, &str); 2] = [
+    ("350, off_peak = 290", "380, off_peak = 300"),
+    ("maximum_peak = 900", "maximum_peak = 1000"),
+];
+
+/// The revised table's text. There is none for want of memory.
+fn revised(alloc: Global) -> Option<String> {
+    let mut made = String::from_str(alloc, EXAMPLE_TABLE).ok()?;
+    for (from, to) in CHANGES {
+        let (front, back) = made.as_str().split_once(from)?;
+        made = format!(in alloc; "{front}{to}{back}").ok()?;
+    }
+    Some(made)
+}
+
+/// A schedule of the example table and the revised one, with no revision. There is none for want of
+/// memory.
+pub(super) fn both(alloc: Global) -> Option<Schedule>
+    ensures { IfSome result (λ schedule. revisions_of schedule ≡ []) }
+{
+    let text = revised(alloc)?;
+    let second = Fares::read(alloc, text.as_str()).ok()?;
+    let mut schedule = example(alloc)?;
+    schedule.supply(second).ok()?;
+    Some(schedule)
+}
+
+/// The rows of the first path, and then these.
+pub(super) fn behind(alloc: Global, rows: &[Row]) -> Result<Vec<Row>, AllocError> {
+    let mut all = FIRST_PATH.to_vec(alloc)?;
+    all.extend_from_slice(rows)?;
+    Ok(all)
+}
+
+#[test]
+fn a_revision_changes_the_fares_of_later_journeys(rt: HostRuntime) -> Result<(), Fail> {
+    let alloc = rt.alloc();
+    let rows = behind(alloc, &REVISION)?;
+    let asked = lines_of(alloc, rows.as_slice(), false)?;
+    let mut written = Vec::new(alloc);
+    let schedule = both(alloc).ok_or("a schedule")?;
+    let ended = replay_text(
+        alloc,
+        schedule,
+        10,
+        &mut asked.as_slice(),
+        &mut written,
+        1_000,
+    );
+    assert_eq!(rt; ended, Ok(()));
+    let answered = lines_of(alloc, rows.as_slice(), true)?;
+    assert_eq!(rt; written.as_slice(), answered.as_slice());
+    Ok(())
+}
+
+#[test]
+fn a_revision_to_a_table_that_is_not_there_is_no_entry(rt: HostRuntime) -> Result<(), Fail> {
+    let alloc = rt.alloc();
+    let rows = behind(alloc, &UNKNOWN_TABLE)?;
+    let asked = lines_of(alloc, rows.as_slice(), false)?;
+    let (written, ended) = replayed(alloc, asked.as_slice())?;
+    assert_eq!(rt; ended, Ok(()));
+    let answered = lines_of(alloc, rows.as_slice(), true)?;
+    assert_eq!(rt; written.as_slice(), answered.as_slice());
+    Ok(())
+}
+
+#[test]
+fn a_revision_of_another_length_is_a_bad_line(rt: HostRuntime) -> Result<(), Fail> {
+    let alloc = rt.alloc();
+    let (revision, _) = REVISION[1];
+    for size in [104, 105] {
+        let (written, ended) = replayed(alloc, &revision.as_bytes()[..size])?;
+        assert_eq!(rt; ended, Err(RunFault::BadLine(1)), "{size} digits");
+        assert_eq!(rt; written.as_slice(), b"0008ff01000000000000\n".as_slice());
+    }
+    Ok(())
+}

@@ -1,0 +1,383 @@
+//! What no clause says: worked examples of the account and of the touch's bytes, with the values of
+//! docs/FARES.md and docs/PROTOCOL.md, and the comparison with a plain account.
+
+ghost use Rattle.std.specs.Prelude.{◌≡◌, ◌<◌, ◌+◌, List, length, OnOk};
+ghost use Rattle.oyster_account.specs.declared.reply.Judged.{Judged};
+ghost use Rattle.oyster_account.specs.Scheme.{scheme_of};
+ghost use Rattle.oyster_account.specs.Standing.{StandsFor, touches_in};
+
+mod accounts;
+mod plain;
+mod revised;
+mod wanderer;
+mod wide;
+
+use self::plain::{Answer, Plain};
+use self::wanderer::Wanderer;
+use self::wide::WIDE_TABLE;
+use fare_schedule::Schedule;
+use fare_table::Fares;
+use oyster_account::{Acceptance, Act, Card, CardState, Judged, Refusal, Reply, Touch};
+use std::alloc::{AllocError, Global};
+use std::process::Abort;
+use std::test::Fail;
+
+/// An act of the card, the verdict, change and balance that it is to be answered with, and the
+/// state that the card is to have then.
+type Step = (Act, u8, i64, i64, CardState);
+
+const VACANT: CardState = CardState::Vacant;
+
+const OUTSIDE: CardState = CardState::Outside;
+
+const INSIDE: CardState = CardState::Inside;
+
+const ISSUE: Act = Act::Issue {
+    moment: 1_736_149_800,
+};
+
+const TOP_UP_2000: Act = Act::TopUp {
+    pence: 2000,
+    moment: 1_736_150_100,
+};
+
+/// A card with 2000 pence.
+const WITH_2000: [Step; 2] = [
+    (ISSUE, 8, 0, 0, OUTSIDE),
+    (TOP_UP_2000, 7, 2000, 2000, OUTSIDE),
+];
+
+const fn enter(station: u16, moment: u32) -> Act {
+    Act::Enter { station, moment }
+}
+
+const fn leave(station: u16, moment: u32) -> Act {
+    Act::Leave { station, moment }
+}
+
+/// A revision to the table of a digest from a fare day on.
+const fn revise(day: i32) -> Act {
+    Act::Revise {
+        digest: [
+            0x96, 0xcc, 0x50, 0xb0, 0x39, 0x6b, 0x0e, 0x93, 0x39, 0x71, 0xad, 0x24, 0x64, 0xa5,
+            0x08, 0xf6, 0x30, 0xc6, 0x46, 0x3f, 0x90, 0xc3, 0x22, 0xda, 0x83, 0x93, 0xbc, 0xc1,
+            0xa5, 0x46, 0xa9, 0xbe,
+        ],
+        day,
+        moment: 1_736_150_400,
+    }
+}
+
+const fn top_up(pence: u32) -> Act {
+    top_up_at(pence, 1_736_150_100)
+}
+
+const fn top_up_at(pence: u32, moment: u32) -> Act {
+    Act::TopUp { pence, moment }
+}
+
+/// Gives an act to a card of number 1, and to the plain account of it. What is foretold is what is
+/// given, and what the plain account says.
+fn give(
+    rt: &impl Abort,
+    schedule: &Schedule,
+    card: &mut Card,
+    plain: &mut Plain,
+    act: Act,
+) -> Result<Answer, Fail>
+    requires few { touches_in card.old < 100 }
+    requires stands { (history : List Judged)
+        × StandsFor (scheme_of schedule.now) 1 history card.old }
+    ensures count { OnOk result (touches_in card.new ≡ touches_in card.old + 1) }
+    ensures stands { OnOk result ((history : List Judged)
+        × StandsFor (scheme_of schedule.now) 1 history card.new) }
+{
+    let touch = Touch {
+        gate: 7,
+        number: card.count(),
+        card: 1,
+        act,
+    };
+    if touch.is_revision() {
+        return Err(AllocError.into());
+    }
+    let stamp = schedule.stamp(touch.moment())?;
+    card.ready()?;
+    assert!(rt; card.has_room());
+    let (foretold, seen) = card.judge(schedule, &touch, &stamp);
+    let reply = card.apply(schedule, &touch, &stamp);
+    assert_eq!(rt; foretold, reply, "at {act:?}");
+    assert_eq!(rt; card.view(), seen, "at {act:?}");
+    let answer = Answer {
+        verdict: reply.verdict,
+        change: i64::from(reply.change),
+        balance: reply.balance,
+        state: seen.state,
+    };
+    assert_eq!(rt; seen.balance, answer.balance, "at {act:?}");
+    assert_eq!(rt;
+        plain.give(schedule, act, stamp)?,
+        answer,
+        "at {stamp:?} {act:?}"
+    );
+    Ok(answer)
+}
+
+/// Gives acts to a card of number 1 in turn, and compares the answers.
+fn go_on(
+    rt: &impl Abort,
+    schedule: &Schedule,
+    card: &mut Card,
+    plain: &mut Plain,
+    steps: &[Step],
+) -> Result<(), Fail>
+    requires few { touches_in card.old + length steps.now < 100 }
+    requires stands { (history : List Judged)
+        × StandsFor (scheme_of schedule.now) 1 history card.old }
+    ensures count { OnOk result (touches_in card.new ≡ touches_in card.old + length steps.now) }
+    ensures stands { OnOk result ((history : List Judged)
+        × StandsFor (scheme_of schedule.now) 1 history card.new) }
+{
+    for step in steps {
+        let (act, verdict, change, balance, state) = *step;
+        let answer = give(rt, schedule, card, plain, act)?;
+        let expected = Answer {
+            verdict,
+            change,
+            balance,
+            state,
+        };
+        assert_eq!(rt; answer, expected, "at {act:?}");
+    }
+    Ok(())
+}
+
+/// Plays a row on a card of its own, after its first steps.
+fn play_row(
+    rt: &impl Abort,
+    alloc: Global,
+    schedule: &Schedule,
+    first: &[Step],
+    row: &[Step],
+) -> Result<(), Fail>
+    requires first { length first.now < 10 }
+    requires row { length row.now < 80 }
+{
+    let mut card = Card::vacant(alloc);
+    let mut plain = Plain::new(alloc);
+    go_on(rt, schedule, &mut card, &mut plain, first)?;
+    go_on(rt, schedule, &mut card, &mut plain, row)?;
+    assert_eq!(rt; card.count() as usize, first.len() + row.len());
+    Ok(())
+}
+
+/// Plays each row on a card of its own, after the same first steps, by one table.
+fn play(
+    rt: &impl Abort,
+    alloc: Global,
+    table: &str,
+    first: &[Step],
+    rows: &[&[Step]],
+) -> Result<(), Fail> {
+    let schedule = Schedule::new(alloc, Fares::read(alloc, table)?)?;
+    play_on(rt, alloc, &schedule, first, rows)
+}
+
+/// Plays each row on a card of its own, after the same first steps, by a schedule.
+fn play_on(
+    rt: &impl Abort,
+    alloc: Global,
+    schedule: &Schedule,
+    first: &[Step],
+    rows: &[&[Step]],
+) -> Result<(), Fail> {
+    assert!(rt; first.len() < 10);
+    for row in rows {
+        let row: &[Step] = row;
+        assert!(rt; row.len() < 80);
+        play_row(rt, alloc, schedule, first, row)?;
+    }
+    Ok(())
+}
+
+/// Gives fifty acts of a generator to a card of number 1.
+fn wander(
+    rt: &impl Abort,
+    alloc: Global,
+    schedule: &Schedule,
+    wanderer: &mut Wanderer,
+) -> Result<(), Fail> {
+    let mut card = Card::vacant(alloc);
+    let mut plain = Plain::new(alloc);
+    for touch in 0..50u32 {
+        let act = wanderer.next(touch);
+        let answer = give(rt, schedule, &mut card, &mut plain, act)?;
+        wanderer.note(answer.verdict);
+    }
+    Ok(())
+}
+
+#[test]
+fn a_card_answers_as_a_plain_account_does(rt: HostRuntime) -> Result<(), Fail> {
+    let alloc = rt.alloc();
+    let schedule = Schedule::new(alloc, Fares::read(alloc, WIDE_TABLE)?)?;
+    let mut wanderer = Wanderer::new();
+    for _ in 0..100 {
+        wander(&rt, alloc, &schedule, &mut wanderer)?;
+        wanderer.turn_to_another_card();
+    }
+    // Every verdict was given but that of a table with no such card.
+    for verdict in [1, 2, 3, 4, 5, 6, 7, 8, 20, 21, 22, 23, 24, 25, 26] {
+        assert!(rt; wanderer.has_noted(verdict), "verdict {verdict}");
+    }
+    Ok(())
+}
+
+#[test]
+fn a_clock_that_goes_back_makes_an_earlier_fare_day(rt: HostRuntime) -> Result<(), Fail> {
+    // On Sunday 2025-10-26 the clock shows 04:50, then 04:10 of the fare day before, then 04:35.
+    let row = [
+        (enter(1, 1_761_450_600), 1, -900, 1100, INSIDE),
+        (leave(2, 1_761_451_800), 23, 0, 1100, INSIDE),
+        (enter(2, 1_761_451_800), 23, 0, 1100, INSIDE),
+        (leave(2, 1_761_453_300), 4, 610, 1710, OUTSIDE),
+    ];
+    play(&rt, rt.alloc(), WIDE_TABLE, &WITH_2000, &[&row])
+}
+
+#[test]
+fn a_reply_has_the_code_of_its_verdict(rt: HostRuntime) {
+    let accepted = [
+        Acceptance::Entered,
+        Acceptance::EnteredContinued,
+        Acceptance::EnteredOverOpen,
+        Acceptance::Exited,
+        Acceptance::ExitedUnstarted,
+        Acceptance::ExitedLate,
+        Acceptance::ToppedUp,
+        Acceptance::Issued,
+        Acceptance::Revised,
+    ];
+    for (acceptance, verdict) in accepted.into_iter().zip(1..=9) {
+        let reply = Reply::granted(acceptance, 1000, 100);
+        assert_eq!(rt;
+            reply,
+            Reply {
+                verdict,
+                change: -900,
+                balance: 100
+            }
+        );
+        assert!(rt; reply.is_accepted());
+    }
+    let refused = [
+        Refusal::UnknownCard,
+        Refusal::AlreadyIssued,
+        Refusal::UnknownStation,
+        Refusal::Backwards,
+        Refusal::LowBalance,
+        Refusal::BadAmount,
+        Refusal::OverLimit,
+        Refusal::BadDay,
+    ];
+    for (refusal, verdict) in refused.into_iter().zip(20..=27) {
+        let reply = Reply::refused(refusal, -710);
+        assert_eq!(rt;
+            reply,
+            Reply {
+                verdict,
+                change: 0,
+                balance: -710
+            }
+        );
+        assert!(rt; !reply.is_accepted());
+    }
+    assert_eq!(rt;
+        Reply::unknown_card(),
+        Reply {
+            verdict: 20,
+            change: 0,
+            balance: 0
+        }
+    );
+}
+
+#[test]
+fn a_touch_has_its_bytes_and_is_read_from_them(rt: HostRuntime) {
+    let touch = |number, act| Touch {
+        gate: 7,
+        number,
+        card: 1,
+        act,
+    };
+    let rows: [(Touch, u32, &[u8]); 6] = [
+        (
+            touch(1, ISSUE),
+            1_736_149_800,
+            &[4, 0, 7, 0, 0, 0, 1, 0, 0, 0, 1, 0x67, 0x7b, 0x8b, 0x28],
+        ),
+        (
+            touch(2, top_up(2000)),
+            1_736_150_100,
+            &[
+                3, 0, 7, 0, 0, 0, 2, 0, 0, 0, 1, 0, 0, 7, 0xd0, 0x67, 0x7b, 0x8c, 0x54,
+            ],
+        ),
+        (
+            touch(3, enter(2, 1_736_150_400)),
+            1_736_150_400,
+            &[
+                1, 0, 7, 0, 0, 0, 3, 0, 0, 0, 1, 0, 2, 0x67, 0x7b, 0x8d, 0x80,
+            ],
+        ),
+        (
+            touch(4, leave(1, 1_736_151_900)),
+            1_736_151_900,
+            &[
+                2, 0, 7, 0, 0, 0, 4, 0, 0, 0, 1, 0, 1, 0x67, 0x7b, 0x93, 0x5c,
+            ],
+        ),
+        (
+            touch(6, revise(20095)),
+            1_736_150_400,
+            &[
+                6, 0, 7, 0, 0, 0, 6, 0, 0, 0, 1, 0x96, 0xcc, 0x50, 0xb0, 0x39, 0x6b, 0x0e, 0x93,
+                0x39, 0x71, 0xad, 0x24, 0x64, 0xa5, 0x08, 0xf6, 0x30, 0xc6, 0x46, 0x3f, 0x90, 0xc3,
+                0x22, 0xda, 0x83, 0x93, 0xbc, 0xc1, 0xa5, 0x46, 0xa9, 0xbe, 0, 0, 0x4e, 0x7f, 0x67,
+                0x7b, 0x8d, 0x80,
+            ],
+        ),
+        (
+            touch(8, revise(-3)),
+            1_736_150_400,
+            &[
+                6, 0, 7, 0, 0, 0, 8, 0, 0, 0, 1, 0x96, 0xcc, 0x50, 0xb0, 0x39, 0x6b, 0x0e, 0x93,
+                0x39, 0x71, 0xad, 0x24, 0x64, 0xa5, 0x08, 0xf6, 0x30, 0xc6, 0x46, 0x3f, 0x90, 0xc3,
+                0x22, 0xda, 0x83, 0x93, 0xbc, 0xc1, 0xa5, 0x46, 0xa9, 0xbe, 0xff, 0xff, 0xff, 0xfd,
+                0x67, 0x7b, 0x8d, 0x80,
+            ],
+        ),
+    ];
+    for (touch, moment, bytes) in rows {
+        assert_eq!(rt; touch.moment(), moment);
+        assert_eq!(rt; touch.is_revision(), bytes.len() == 51);
+        let mut out = [0xee; 51];
+        let length = touch.write_into(&mut out);
+        assert_eq!(rt; length, bytes.len());
+        assert!(rt; length <= 51);
+        assert_eq!(rt; &out[..length], bytes);
+        assert!(rt; out[length..].iter().all(|byte| *byte == 0xee));
+        assert_eq!(rt; Touch::read(bytes), Some((touch, length)));
+        assert_eq!(rt; Touch::read(&out), Some((touch, length)));
+        for front in 0..length {
+            assert_eq!(rt;
+                Touch::read(&bytes[..front]),
+                None,
+                "the first {front} bytes"
+            );
+        }
+    }
+    assert_eq!(rt; Touch::read(&[0; 51]), None);
+    assert_eq!(rt; Touch::read(&[5; 51]), None);
+    assert_eq!(rt; Touch::read(&[7; 51]), None);
+}
