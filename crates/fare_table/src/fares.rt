@@ -21,7 +21,6 @@ use sha2::{Digest, Sha256};
 use std::alloc::{AllocError, Global};
 
 /// A fare table that was read.
-#[derive(Drop)]
 pub struct Fares {
     clock: Zone,
     zone_text: String,
@@ -32,6 +31,20 @@ pub struct Fares {
     ghost within_maximum: { is_maximum_low rates lists.singles.items lists.pairs ≡ false },
     ghost within_limits: { AreWithinLimits rates lists.pairs lists.caps.items lists.interchanges } by { Prim.hlevel props },
     ghost has_singles: { HasSingles lists.stations lists.singles.items },
+}
+
+/// By hand, so that it is one call wherever one is dropped.
+impl Drop for Fares {
+    fn drop(self) {
+        let Fares {
+            clock: _,
+            zone_text: _,
+            rates: _,
+            holidays: _,
+            lists: _,
+            digest: _,
+        } = self;
+    }
 }
 
 impl Fares {

@@ -21,9 +21,15 @@ use std::marker::Model;
 use toml::Value;
 
 /// The stations of a table, by number. Contracts see them in their order.
-#[derive(Drop)]
 pub struct Stations {
     rows: IndexMap<u16, Station>,
+}
+
+/// By hand, so that it is one call wherever one is dropped.
+impl Drop for Stations {
+    fn drop(self) {
+        let Stations { rows: _ } = self;
+    }
 }
 
 impl Model for Stations {

@@ -15,7 +15,7 @@ use thiserror::Error;
 use toml::Table;
 
 /// What there is to tell of a TOML document beside what a report has.
-#[derive(Debug, Drop)]
+#[derive(Debug)]
 pub struct Survey {
     /// The keys that aren't known.
     pub unknown: Vec<Unknown>,
@@ -27,6 +27,19 @@ pub struct Survey {
     pub holidays: usize,
     /// The first price above its maximum.
     pub above: Option<Above>,
+}
+
+/// By hand, so that it is one call wherever one is dropped.
+impl Drop for Survey {
+    fn drop(self) {
+        let Survey {
+            unknown: _,
+            pairs: _,
+            interchanges: _,
+            holidays: _,
+            above: _,
+        } = self;
+    }
 }
 
 /// Why bytes can't be surveyed.

@@ -25,11 +25,17 @@ struct Trip {
 }
 
 /// The list of touches, cut into legs and journeys.
-#[derive(Drop)]
 struct Travel {
     taps: Vec<Tap>,
     legs: Vec<Trip>,
     journeys: Vec<Trip>,
+}
+
+/// By hand, so that it is one call wherever one is dropped.
+impl Drop for Travel {
+    fn drop(self) {
+        let Travel { taps: _, legs: _, journeys: _ } = self;
+    }
 }
 
 /// What a touch is answered with, and the state that the card has then.
