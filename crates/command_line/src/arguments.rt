@@ -10,7 +10,7 @@ use crate::commands::command;
 use crate::history::{History, history_asked};
 use crate::seal::{Seal, seal_asked};
 use clap::error::ErrorKind;
-use clap::{ArgMatches, Error};
+use clap::{ArgMatches, Command, Error};
 use std::alloc::{AllocError, Global};
 
 /// The most cards that a station has.
@@ -129,6 +129,17 @@ pub fn arguments_of<'a>(alloc: Global, words: &'a [&'a str]) -> Result<Arguments
     ensures { IfOk result IsAllowed }
 {
     let mut command = command(alloc)?;
+    asked_of(alloc, &mut command, words)
+}
+
+/// What the words of a command line ask for, as this command reads them.
+fn asked_of<'a>(
+    alloc: Global,
+    command: &mut Command<'a>,
+    words: &'a [&'a str],
+) -> Result<Arguments<'a>, Error>
+    ensures { IfOk result IsAllowed }
+{
     let matches = command.try_get_matches_from_mut(words)?;
     match asked(alloc, &matches)? {
         Some(asked) => Ok(asked),
@@ -158,34 +169,37 @@ pub fn refuse_bytes(alloc: Global) -> Result<Error, Error>
 fn asked<'a>(alloc: Global, matches: &ArgMatches<'a>) -> Result<Option<Arguments<'a>>, AllocError>
     ensures { IfOk result (λ asked. IfSome asked IsAllowed) }
 {
-    Ok(match matches.subcommand() {
-        Some(("replay", inner)) => {
+    match matches.subcommand() {
+        Some((name, inner)) => {
             let revisions = revisions_asked(alloc, inner)?;
-            replay_asked(inner, revisions)
+            Ok(asked_by(name, inner, revisions))
         }
-        Some(("check", inner)) => check_asked(inner),
-        Some(("serve", inner)) => {
-            let revisions = revisions_asked(alloc, inner)?;
-            serve_asked(inner, revisions)
-        }
-        Some(("migrate", inner)) => migrate_asked(inner),
-        Some(("verify", inner)) => {
-            let revisions = revisions_asked(alloc, inner)?;
-            verify_asked(inner, revisions)
-        }
-        Some(("history", inner)) => {
-            let revisions = revisions_asked(alloc, inner)?;
-            history_of(inner, revisions)
-        }
-        Some(("balances", inner)) => {
-            let revisions = revisions_asked(alloc, inner)?;
-            balances_of(inner, revisions)
-        }
-        _ => None,
-    })
+        None => Ok(None),
+    }
 }
 
-/// The paths of further fare tables that the matches of a command name.
+/// What the matches of the command of this name ask for, with the paths of further fare tables that
+/// they name. `None` as in `asked`.
+fn asked_by<'a>(
+    name: &str,
+    inner: &ArgMatches<'a>,
+    revisions: Vec<&'a str>,
+) -> Option<Arguments<'a>>
+    ensures { IfSome result IsAllowed }
+{
+    match name {
+        "replay" => replay_asked(inner, revisions),
+        "check" => check_asked(inner),
+        "serve" => serve_asked(inner, revisions),
+        "migrate" => migrate_asked(inner),
+        "verify" => verify_asked(inner, revisions),
+        "history" => history_of(inner, revisions),
+        "balances" => balances_of(inner, revisions),
+        _ => None,
+    }
+}
+
+/// The paths of further fare tables that the matches of a command name: none where it takes none.
 fn revisions_asked<'a>(
     alloc: Global,
     matches: &ArgMatches<'a>,

@@ -46,6 +46,71 @@ fn assert_refused(rt: &impl Abort, alloc: Global, lines: &[&str]) {
     }
 }
 
+/// The help of each command: how the command is used, and a part of its examples.
+const HELPS: [(&str, &str, &str); 7] = [
+    (
+        "replay",
+        "[OPTIONS] --cards <N> [REVISION]...\n",
+        "| bovtrila replay --cards 10\n",
+    ),
+    (
+        "check",
+        "--table <FILE>\n",
+        "  bovtrila check --table fares.toml\n",
+    ),
+    (
+        "serve",
+        "[OPTIONS] --table <FILE> --journal <FILE> --listen <ADDR> --cards <N>\n         \
+         --capacity <N> --lines <N> [REVISION]...\n",
+        "  bovtrila serve --table fares.toml --journal station.journal",
+    ),
+    (
+        "migrate",
+        "--table <FILE> --from <FILE> --to <FILE> --cards <N>\n",
+        "  bovtrila migrate --table fares.toml --from station.journal",
+    ),
+    (
+        "verify",
+        "[OPTIONS] --journal <FILE> [REVISION]...\n",
+        "  bovtrila verify --journal station.journal --table fares.toml --seal",
+    ),
+    (
+        "history",
+        "[OPTIONS] --table <FILE> --journal <FILE> [REVISION]...\n",
+        "  bovtrila history --table fares.toml --journal station.journal",
+    ),
+    (
+        "balances",
+        "[OPTIONS] --table <FILE> --journal <FILE> [REVISION]...\n",
+        "  bovtrila balances --table fares.toml --journal station.journal --at 5000",
+    ),
+];
+
+/// The help of a command, where help is what it is answered by.
+fn help_of(alloc: Global, command: &str) -> Option<String> {
+    // The file that the program is started from has another name.
+    let words = ["out/tap_server", command, "--help"];
+    let help = arguments_of(alloc, &words).err()?;
+    if help.kind() == ErrorKind::DisplayHelp {
+        format!(in alloc; "{help}").ok()
+    } else {
+        None
+    }
+}
+
+/// The help of this command tells how it is used by the program's own name, and has this example.
+/// None of its lines has more than a hundred columns.
+fn assert_help(rt: &impl Abort, alloc: Global, command: &str, usage: &str, example: &str) {
+    let help = help_of(alloc, command).expect(rt, "a help");
+    let text = help.as_str();
+    let used = format!(in alloc; "\nUsage: bovtrila {command} {usage}").expect(rt, "a usage");
+    let is_told = text.contains(used.as_str()) && text.contains(example);
+    assert!(rt; is_told && !text.contains("tap_server"), "{text}");
+    for line in text.lines() {
+        assert!(rt; line.chars().count() <= 100, "{line}");
+    }
+}
+
 #[test]
 fn a_replay_has_a_number_of_cards(rt: HostRuntime) {
     let rows = [
@@ -123,60 +188,10 @@ fn the_version_names_the_toolchain_that_proved_it(rt: HostRuntime) -> Result<(),
 }
 
 #[test]
-fn help_names_the_program_and_fits_a_hundred_columns(rt: HostRuntime) -> Result<(), Fail> {
-    let alloc = rt.alloc();
-    for (command, usage, example) in [
-        (
-            "replay",
-            "[OPTIONS] --cards <N> [REVISION]...\n",
-            "| bovtrila replay --cards 10\n",
-        ),
-        (
-            "check",
-            "--table <FILE>\n",
-            "  bovtrila check --table fares.toml\n",
-        ),
-        (
-            "serve",
-            "[OPTIONS] --table <FILE> --journal <FILE> --listen <ADDR> --cards <N>\n         \
-             --capacity <N> --lines <N> [REVISION]...\n",
-            "  bovtrila serve --table fares.toml --journal station.journal",
-        ),
-        (
-            "migrate",
-            "--table <FILE> --from <FILE> --to <FILE> --cards <N>\n",
-            "  bovtrila migrate --table fares.toml --from station.journal",
-        ),
-        (
-            "verify",
-            "[OPTIONS] --journal <FILE> [REVISION]...\n",
-            "  bovtrila verify --journal station.journal --table fares.toml --seal",
-        ),
-        (
-            "history",
-            "[OPTIONS] --table <FILE> --journal <FILE> [REVISION]...\n",
-            "  bovtrila history --table fares.toml --journal station.journal",
-        ),
-        (
-            "balances",
-            "[OPTIONS] --table <FILE> --journal <FILE> [REVISION]...\n",
-            "  bovtrila balances --table fares.toml --journal station.journal --at 5000",
-        ),
-    ] {
-        // The file that the program is started from has another name.
-        let words = ["out/tap_server", command, "--help"];
-        let help = arguments_of(alloc, &words).err().ok_or("help")?;
-        assert_eq!(rt; help.kind(), ErrorKind::DisplayHelp, "{command}");
-        let text = format!(in alloc; "{help}")?;
-        let usage = format!(in alloc; "\nUsage: bovtrila {command} {usage}")?;
-        assert!(rt; text.contains(usage.as_str()), "{text}");
-        assert!(rt; text.contains(example), "{text}");
-        assert!(rt; !text.contains("tap_server"), "{text}");
-        for line in text.lines() {
-            assert!(rt; line.chars().count() <= 100, "{line}");
-        }
+fn help_names_the_program_and_fits_a_hundred_columns(rt: HostRuntime) {
+    for (command, usage, example) in &HELPS {
+        assert_help(&rt, rt.alloc(), command, usage, example);
     }
-    Ok(())
 }
 
 #[test]

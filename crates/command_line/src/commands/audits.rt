@@ -1,10 +1,8 @@
-//! The commands that read a journal alone, with their options and help.
+//! The commands that read a journal alone.
 
-use super::{TextOption, number, option, revisions, titled, with_text};
+use super::{Described, Parameter, Rule, Takes};
 use crate::arguments::CARDS_LIMIT;
 use crate::history::FORMATS;
-use clap::{Arg, ArgAction, Command, Error};
-use std::alloc::Global;
 
 /// What `verify` does.
 const VERIFY_ABOUT: &str = "Says whether a file is a sound journal, or what is wrong with it";
@@ -57,94 +55,127 @@ server may go on with it.
 Statuses: 0 each balance is what was paid in less what was charged, 1 a fault (standard error has
 its line), 2 a wrong command line";
 
+/// What a seal is, as it is written.
+const SEAL_VALUES: [&str; 2] = ["N", "DIGEST"];
+
+/// The command `verify`.
+pub(super) const VERIFY: Described = Described {
+    name: "verify",
+    about: VERIFY_ABOUT,
+    usage: None,
+    example: VERIFY_EXAMPLE,
+    parameters: &[JOURNAL, HELD_AGAINST, SEAL, SEALED, NAMED_BESIDE],
+};
+
+/// The command `history`.
+pub(super) const HISTORY: Described = Described {
+    name: "history",
+    about: HISTORY_ABOUT,
+    usage: None,
+    example: HISTORY_EXAMPLE,
+    parameters: &[MADE_BY, JOURNAL, CARD, DAY, FORMAT, NAMED],
+};
+
+/// The command `balances`.
+pub(super) const BALANCES: Described = Described {
+    name: "balances",
+    about: BALANCES_ABOUT,
+    usage: None,
+    example: BALANCES_EXAMPLE,
+    parameters: &[MADE_BY, JOURNAL, AT, NAMED],
+};
+
 /// The journal that is read.
-const JOURNAL: TextOption = TextOption {
+const JOURNAL: Parameter = Parameter {
     name: "journal",
-    value: "FILE",
+    takes: Takes::Text("FILE"),
+    rule: Rule::Required,
     help: "The journal's file, of either format",
 };
 
 /// The first table that the journal was made with.
-const MADE_BY: TextOption = TextOption {
+const MADE_BY: Parameter = Parameter {
     name: "table",
-    value: "FILE",
+    takes: Takes::Text("FILE"),
+    rule: Rule::Required,
     help: "The file of the first fare table that the journal was made with",
 };
 
 /// The first table that a journal is held against, where one is named.
-const HELD_AGAINST: &str = "The file of the first fare table that the journal was made with;
-without it no table is looked at";
+const HELD_AGAINST: Parameter = Parameter {
+    name: "table",
+    takes: Takes::Text("FILE"),
+    rule: Rule::Optional,
+    help: "The file of the first fare table that the journal was made with;
+without it no table is looked at",
+};
+
+/// The tables that a journal's revisions name.
+const NAMED: Parameter = Parameter {
+    name: "revisions",
+    takes: Takes::Revisions,
+    rule: Rule::Optional,
+    help: NAMED_HELP,
+};
+
+/// The tables that a journal's revisions name, beside the first one.
+const NAMED_BESIDE: Parameter = Parameter {
+    name: "revisions",
+    takes: Takes::Revisions,
+    rule: Rule::With("table"),
+    help: NAMED_HELP,
+};
 
 /// The tables that a journal's revisions name.
 const NAMED_HELP: &str = "Files of further fare tables: all that the journal names";
 
 /// What makes a seal.
-const SEAL_HELP: &str = "Writes a seal of the journal's touches: their number and a digest";
-
-/// What a seal is, as it is written.
-const SEAL_VALUES: [&str; 2] = ["N", "DIGEST"];
+const SEAL: Parameter = Parameter {
+    name: "seal",
+    takes: Takes::Flag,
+    rule: Rule::Without("sealed"),
+    help: "Writes a seal of the journal's touches: their number and a digest",
+};
 
 /// What holds a journal against a seal.
-const SEALED_HELP: &str = "Says whether the journal's first N touches are still those of a seal:
-N from 0 to 1000000, and 64 hexadecimal digits";
+const SEALED: Parameter = Parameter {
+    name: "sealed",
+    takes: Takes::Pair(&SEAL_VALUES),
+    rule: Rule::Optional,
+    help: "Says whether the journal's first N touches are still those of a seal:
+N from 0 to 1000000, and 64 hexadecimal digits",
+};
 
 /// Which card's touches are written.
-const CARD_HELP: &str = "Writes the touches of this card alone, from 1 to 100000";
+const CARD: Parameter = Parameter {
+    name: "card",
+    takes: Takes::Number("N", CARDS_LIMIT),
+    rule: Rule::Optional,
+    help: "Writes the touches of this card alone, from 1 to 100000",
+};
 
 /// Which day's touches are written.
-const DAY_HELP: &str = "Writes the touches of this fare day alone: a date, as 2025-01-07";
+const DAY: Parameter = Parameter {
+    name: "day",
+    takes: Takes::Text("DATE"),
+    rule: Rule::Optional,
+    help: "Writes the touches of this fare day alone: a date, as 2025-01-07",
+};
 
 /// As what touches are written.
-const FORMAT_HELP: &str = "As csv, with a heading, or as frames, request lines that replay reads;
-without it as csv";
+const FORMAT: Parameter = Parameter {
+    name: "format",
+    takes: Takes::Word("FORMAT", FORMATS),
+    rule: Rule::Optional,
+    help: "As csv, with a heading, or as frames, request lines that replay reads;
+without it as csv",
+};
 
 /// After how many touches balances are told.
-const AT_HELP: &str = "Tells what cards held after the first N touches, from 0 to 1000000;
-without it after all";
-
-/// The command `verify`.
-pub(crate) fn verify_command<'a>(alloc: Global) -> Result<Command<'a>, Error> {
-    let table = option(alloc, "table", "FILE").help(HELD_AGAINST);
-    let seal = Arg::new(alloc, "seal")
-        .long("seal")
-        .action(ArgAction::SetTrue)
-        .help(SEAL_HELP)
-        .conflicts_with("sealed")?;
-    let sealed = Arg::new(alloc, "sealed")
-        .long("sealed")
-        .num_args(2)
-        .value_names(&SEAL_VALUES)
-        .action(ArgAction::Set)
-        .help(SEALED_HELP);
-    let named = revisions(alloc).help(NAMED_HELP).requires_arg("table")?;
-    let command = titled(alloc, "verify", VERIFY_ABOUT, VERIFY_EXAMPLE);
-    let command = with_text(alloc, command, &JOURNAL)?.arg(table)?;
-    Ok(command.arg(seal)?.arg(sealed)?.arg(named)?)
-}
-
-/// The command `history`.
-pub(crate) fn history_command<'a>(alloc: Global) -> Result<Command<'a>, Error> {
-    let card = number(alloc, "card", CARDS_LIMIT).help(CARD_HELP);
-    let day = option(alloc, "day", "DATE").help(DAY_HELP);
-    let format = option(alloc, "format", "FORMAT")
-        .value_parser(FORMATS)
-        .help(FORMAT_HELP);
-    let command = titled(alloc, "history", HISTORY_ABOUT, HISTORY_EXAMPLE);
-    let command = with_journal(alloc, command)?;
-    let command = command.arg(card)?.arg(day)?.arg(format)?;
-    Ok(command.arg(revisions(alloc).help(NAMED_HELP))?)
-}
-
-/// The command `balances`.
-pub(crate) fn balances_command<'a>(alloc: Global) -> Result<Command<'a>, Error> {
-    let at = option(alloc, "at", "N").help(AT_HELP);
-    let command = titled(alloc, "balances", BALANCES_ABOUT, BALANCES_EXAMPLE);
-    let command = with_journal(alloc, command)?.arg(at)?;
-    Ok(command.arg(revisions(alloc).help(NAMED_HELP))?)
-}
-
-/// The command with a journal, and the first table that it was made with.
-fn with_journal<'a>(alloc: Global, command: Command<'a>) -> Result<Command<'a>, Error> {
-    let command = with_text(alloc, command, &MADE_BY)?;
-    Ok(with_text(alloc, command, &JOURNAL)?)
-}
+const AT: Parameter = Parameter {
+    name: "at",
+    takes: Takes::Text("N"),
+    rule: Rule::Optional,
+    help: "Tells what cards held after the first N touches, from 0 to 1000000;
+without it after all",
+};

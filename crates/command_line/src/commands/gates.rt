@@ -1,0 +1,239 @@
+//! The commands at which gates are answered, and those for their tables and journals.
+
+use super::{Described, Parameter, Rule, Takes};
+use crate::arguments::{CAPACITY_LIMIT, CARDS_LIMIT, CONNECTIONS_LIMIT, IDLE_LIMIT, LINES_LIMIT};
+
+/// What `replay` does.
+const REPLAY_ABOUT: &str =
+    "Answers each request line of standard input by a line on standard output";
+
+/// How `replay` is called, and how it ends.
+const REPLAY_EXAMPLE: &str = "Example, an issue of card 1:
+  echo 000f0400070000000100000001677b8b28 | bovtrila replay --cards 10
+
+Example, with a further table to which touches may revise fares:
+  bovtrila replay --cards 10 --table fares.toml fares-2026.toml < lines
+
+Statuses: 0 all lines are answered, 1 a fault (standard error has its line),
+2 a wrong command line";
+
+/// What `check` does.
+const CHECK_ABOUT: &str = "Says whether a file is a valid fare table, or what is wrong with it";
+
+/// How `check` is called, and how it ends.
+const CHECK_EXAMPLE: &str = "Example:
+  bovtrila check --table fares.toml
+
+Statuses: 0 the table is valid, 1 it is refused or a fault came, 2 a wrong command line";
+
+/// What `serve` does.
+const SERVE_ABOUT: &str = "Serves gates over TCP, and keeps each touch in a journal";
+
+/// What a server needs and may be given, in two lines: the one that `clap` writes is too long.
+const SERVE_USAGE: &str =
+    "bovtrila serve [OPTIONS] --table <FILE> --journal <FILE> --listen <ADDR> --cards <N>
+         --capacity <N> --lines <N> [REVISION]...";
+
+/// How `serve` is called, and how it ends.
+const SERVE_EXAMPLE: &str = "Example, a station of 8 gates:
+  bovtrila serve --table fares.toml --journal station.journal --cards 1000 \\
+    --capacity 1000000 --listen 127.0.0.1:4014 --lines 8
+
+Further tables are the last words. At each start they have to be all that the journal names:
+  bovtrila serve --table fares.toml --journal station.journal --cards 1000 \\
+    --capacity 1000000 --listen 127.0.0.1:4014 --lines 8 fares-2026.toml
+
+Statuses: 0 all lines are done and the journal is closed, 1 a fault or a failed disk (standard
+error has the fault's line), 2 a wrong command line";
+
+/// What `migrate` does.
+const MIGRATE_ABOUT: &str = "Carries a journal of the first format over to a new file";
+
+/// How `migrate` is called, and how it ends.
+const MIGRATE_EXAMPLE: &str = "Example:
+  bovtrila migrate --table fares.toml --from station.journal --to new.journal --cards 1000
+
+The old journal is read alone, and stays as it is.
+
+Statuses: 0 the new journal is whole, 1 a fault (standard error has its line),
+2 a wrong command line";
+
+/// The command `replay`.
+pub(super) const REPLAY: Described = Described {
+    name: "replay",
+    about: REPLAY_ABOUT,
+    usage: None,
+    example: REPLAY_EXAMPLE,
+    parameters: &[REPLAY_TABLE, REPLAY_CARDS, REVISIONS],
+};
+
+/// The command `check`.
+pub(super) const CHECK: Described = Described {
+    name: "check",
+    about: CHECK_ABOUT,
+    usage: None,
+    example: CHECK_EXAMPLE,
+    parameters: &[TABLE],
+};
+
+/// The command `serve`.
+pub(super) const SERVE: Described = Described {
+    name: "serve",
+    about: SERVE_ABOUT,
+    usage: Some(SERVE_USAGE),
+    example: SERVE_EXAMPLE,
+    parameters: &[
+        TABLE,
+        JOURNAL,
+        LISTEN,
+        SERVE_CARDS,
+        CAPACITY,
+        LINES,
+        CONNECTIONS,
+        IDLE,
+        STAY_HALTED,
+        REVISIONS,
+    ],
+};
+
+/// The command `migrate`.
+pub(super) const MIGRATE: Described = Described {
+    name: "migrate",
+    about: MIGRATE_ABOUT,
+    usage: None,
+    example: MIGRATE_EXAMPLE,
+    parameters: &[MADE_BY, FROM, TO, MADE_WITH],
+};
+
+/// The file of the fare table.
+const TABLE: Parameter = Parameter {
+    name: "table",
+    takes: Takes::Text("FILE"),
+    rule: Rule::Required,
+    help: "The file of the fare table, in TOML",
+};
+
+/// The file of the fare table by which a replay answers.
+const REPLAY_TABLE: Parameter = Parameter {
+    name: "table",
+    takes: Takes::Text("FILE"),
+    rule: Rule::Optional,
+    help: "The file of the fare table, in TOML; without it the example table is taken",
+};
+
+/// How many cards a replay has.
+const REPLAY_CARDS: Parameter = Parameter {
+    name: "cards",
+    takes: Takes::Number("N", CARDS_LIMIT),
+    rule: Rule::Required,
+    help: "How many cards there are, from 1 to 100000",
+};
+
+/// The files of further fare tables.
+const REVISIONS: Parameter = Parameter {
+    name: "revisions",
+    takes: Takes::Revisions,
+    rule: Rule::Optional,
+    help: "Files of further fare tables, for the touches that revise fares to one of them",
+};
+
+/// The journal of a server.
+const JOURNAL: Parameter = Parameter {
+    name: "journal",
+    takes: Takes::Text("FILE"),
+    rule: Rule::Required,
+    help: "The journal's file, which is made where there is none",
+};
+
+/// Where gates connect.
+const LISTEN: Parameter = Parameter {
+    name: "listen",
+    takes: Takes::Text("ADDR"),
+    rule: Rule::Required,
+    help: "The address and port that gates connect to; port 0 takes a free one",
+};
+
+/// How many cards a server has.
+const SERVE_CARDS: Parameter = Parameter {
+    name: "cards",
+    takes: Takes::Number("N", CARDS_LIMIT),
+    rule: Rule::Required,
+    help: "How many cards there are, from 1 to 100000;
+a journal is opened with its own number",
+};
+
+/// How many touches a new journal has room for.
+const CAPACITY: Parameter = Parameter {
+    name: "capacity",
+    takes: Takes::Number("N", CAPACITY_LIMIT),
+    rule: Rule::Required,
+    help: "How many touches a new journal has room for, from 1 to 1000000",
+};
+
+/// How many lines a server has.
+const LINES: Parameter = Parameter {
+    name: "lines",
+    takes: Takes::Number("N", LINES_LIMIT),
+    rule: Rule::Required,
+    help: "How many gates are served at once, from 1 to 64",
+};
+
+/// How many connections a line of a server gives its gates.
+const CONNECTIONS: Parameter = Parameter {
+    name: "connections",
+    takes: Takes::Number("N", CONNECTIONS_LIMIT),
+    rule: Rule::Optional,
+    help: "How many connections each line serves before it is done, from 1 to 1000000;
+without it no line is ever done",
+};
+
+/// After how many seconds a silent connection is ended.
+const IDLE: Parameter = Parameter {
+    name: "idle",
+    takes: Takes::Number("SECONDS", IDLE_LIMIT),
+    rule: Rule::Optional,
+    help: "Ends a connection on which nothing was sent, or taken, for so long,
+or the rest of a request didn't come; without it none is ended",
+};
+
+/// What a server does whose journal's disk has failed.
+const STAY_HALTED: Parameter = Parameter {
+    name: "stay-halted",
+    takes: Takes::Flag,
+    rule: Rule::Optional,
+    help: "Goes on where the journal's disk has failed, for enquiries;
+without it the server then ends, to be started again",
+};
+
+/// The fare table by which an old journal was made.
+const MADE_BY: Parameter = Parameter {
+    name: "table",
+    takes: Takes::Text("FILE"),
+    rule: Rule::Required,
+    help: "The file of the fare table by which the journal was made, in TOML",
+};
+
+/// The old journal.
+const FROM: Parameter = Parameter {
+    name: "from",
+    takes: Takes::Text("FILE"),
+    rule: Rule::Required,
+    help: "The file of the old journal",
+};
+
+/// The new journal.
+const TO: Parameter = Parameter {
+    name: "to",
+    takes: Takes::Text("FILE"),
+    rule: Rule::Required,
+    help: "The new journal's file, which is made where there is none;
+else it has to be empty",
+};
+
+/// How many cards an old journal was made with.
+const MADE_WITH: Parameter = Parameter {
+    name: "cards",
+    takes: Takes::Number("N", CARDS_LIMIT),
+    rule: Rule::Required,
+    help: "With how many cards the journal was made, from 1 to 100000",
+};
