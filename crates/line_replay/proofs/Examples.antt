@@ -1,16 +1,19 @@
 -- Worked examples, computed by the definitions: lines of docs/PROTOCOL.md, "Replay", whose answers
--- no table of fares decides.
+-- no table of fares decides, and the printed line of each fault, as docs/OPERATING.md has it.
 use Rattle.std.proofs.Common.{◌≡◌, refl, pos, List, [], ◌∷◌, ◌++◌, Some, None, codes, ℕ, replicate}
+use Rattle.std.specs.Fmt.{digits}
 use Rattle.hex.proofs.OnLiterals.{hex_on_literals}
 use Rattle.oyster_account.specs.declared.touch.Act.TheVariants.{Revise}
 use Rattle.gate_session.specs.declared.request.Request.TheVariants as requests
 use Rattle.reply_book.specs.Tables.{Tables}
 use Rattle.reply_book.specs.Lookup.{found, is_same_touch}
 use Rattle.reply_book.specs.View.{view_after}
+use Rattle.line_replay.specs.declared.fault.RunFault.TheVariants as fault
 use Rattle.line_replay.specs.Line.{lines_of}
 use Rattle.line_replay.specs.HexLine.{request_of, request_of_line, answer_line}
 use Rattle.line_replay.specs.Station.{answer, after}
 use Rattle.line_replay.specs.Replay.{Output, output_of_lines, output_of}
+use Rattle.line_replay.specs.Texts.{printed_run_fault}
 
 -- a line of digits
 abbrev line : List ℕ → List ℕ
@@ -61,3 +64,20 @@ revision_line = refl
 short_revision : request_of_line (codes "0013060007000000020000" ++ codes "0001000007d0677b8c54") ≡ None
 unfolding on_literals
 short_revision = refl
+
+printed_memory : printed_run_fault fault.Memory ≡ codes "fault run 1 Memory"
+printed_memory = refl
+
+printed_read : printed_run_fault fault.Read ≡ codes "fault run 2 Read"
+printed_read = refl
+
+printed_write : printed_run_fault fault.Write ≡ codes "fault run 3 Write"
+printed_write = refl
+
+printed_bad_line : printed_run_fault (fault.BadLine 7) ≡ codes "fault run 4 BadLine 7"
+unfolding digits
+printed_bad_line = refl
+
+printed_line_of_three_digits : printed_run_fault (fault.BadLine 129) ≡ codes "fault run 4 BadLine 129"
+unfolding digits
+printed_line_of_three_digits = refl

@@ -4,3 +4,4 @@ pub mod Station
 pub mod Replay
 pub mod Progress
 pub mod Run
+pub mod Texts

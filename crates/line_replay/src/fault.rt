@@ -1,27 +1,40 @@
 //! Why a run over some input ended early.
 
-ghost use Rattle.std.specs.Prelude.{◌≡◌};
+ghost use Rattle.std.specs.Prelude.{◌≡◌, Some};
 ghost use Rattle.line_replay.specs.declared.fault.RunFault.TheVariants.{Memory, Write};
+ghost use Rattle.line_replay.specs.Texts.{printed_run_fault};
 
 use gate_session::WriteFault;
 use std::alloc::{AllocError, AllocFailed};
+use std::fmt;
 use thiserror::Error;
 
-/// Why a run over some input ended early, in the line that standard error gets of it.
+/// Why a run over some input ended early. The printed numbers begin at 1.
 #[derive(Clone, Copy, Debug, PartialEq, Eq, Error)]
 pub enum RunFault {
     /// There was no memory for the cards, a touch, a line or an answer, or for a table.
-    #[error("fault run 1 Memory")]
     Memory,
     /// A read failed, or as many reads as were allowed were made without an end.
-    #[error("fault run 2 Read")]
     Read,
     /// A write failed, or took nothing.
-    #[error("fault run 3 Write")]
     Write,
     /// The line of this number is no request. Lines count from 1.
-    #[error("fault run 4 BadLine {0}")]
     BadLine(u64),
+}
+
+/// Prints the line that standard error gets of the fault: its number and its name, and the number of
+/// the bad line. It is written by hand, since the derive doesn't state what it prints.
+impl fmt::Display for RunFault {
+    ghost output = { λ fault. Some (printed_run_fault fault) };
+
+    fn fmt<W: fmt::Write>(&self, f: &mut fmt::Formatter<W>) -> fmt::Result {
+        match *self {
+            RunFault::Memory => f.write_str("fault run 1 Memory"),
+            RunFault::Read => f.write_str("fault run 2 Read"),
+            RunFault::Write => f.write_str("fault run 3 Write"),
+            RunFault::BadLine(number) => write!(f, "fault run 4 BadLine {number}"),
+        }
+    }
 }
 
 impl From<AllocError> for RunFault {

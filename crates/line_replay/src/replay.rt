@@ -26,7 +26,6 @@ use std::alloc::{AllocError, Global};
 use std::io::{Read, Write};
 
 /// A replay under way.
-#[derive(Drop)]
 pub(crate) struct Replay {
     /// The touches so far, and the tables by which they are judged.
     book: Book,
@@ -36,6 +35,18 @@ pub(crate) struct Replay {
     answered: u64,
     /// The answers that wait to be written.
     text: Vec<u8>,
+}
+
+/// By hand, so that it is one call wherever one is dropped.
+impl Drop for Replay {
+    fn drop(self) {
+        let Replay {
+            book: _,
+            begun: _,
+            answered: _,
+            text: _,
+        } = self;
+    }
 }
 
 /// Answers the lines that a reader gives, and writes each answer, from an empty history on so many
@@ -63,15 +74,7 @@ pub fn replay_text<R: Read, W: Write>(
     ensures end { OnOk result (IsAtEnd (R.remaining reader.new)) }
 {
     let mut replay = Replay::new(alloc, schedule, cards)?;
-    let mut piece = vec![in alloc; 0u8; PIECE_SIZE]?;
-    for _ in 0..turns {
-        let size = read_piece(reader, &mut piece)?;
-        if size == 0 {
-            return replay.end(writer);
-        }
-        replay.answer_piece(&piece[..size], writer)?;
-    }
-    Err(RunFault::Read)
+    replay.run(alloc, reader, writer, turns)
 }
 
 impl Replay {
@@ -92,6 +95,31 @@ impl Replay {
             answered: 0,
             text: Vec::new(alloc),
         })
+    }
+
+    /// Answers the lines that a reader gives, and writes each answer, by at most so many reads.
+    fn run<R: Read, W: Write>(
+        &mut self,
+        alloc: Global,
+        reader: &mut R,
+        writer: &mut W,
+        turns: u32,
+    ) -> Result<(), RunFault>
+        requires kept { IsUnderWay self.old }
+        requires new { self.old.answered ≡ 0 }
+        ensures written { Ran (R.remaining reader.old) (R.remaining reader.new) (W.contents writer.old) (W.contents writer.new)
+            (λ bytes text. HasWritten (output_from self.old bytes) text result) }
+        ensures end { OnOk result (IsAtEnd (R.remaining reader.new)) }
+    {
+        let mut piece = vec![in alloc; 0u8; PIECE_SIZE]?;
+        for _ in 0..turns {
+            let size = read_piece(reader, &mut piece)?;
+            if size == 0 {
+                return self.end(writer);
+            }
+            self.answer_piece(&piece[..size], writer)?;
+        }
+        Err(RunFault::Read)
     }
 
     /// Writes the answers to all lines that a piece ends.
