@@ -22,9 +22,15 @@ use tap_journal::JournalFault;
 ///
 /// Contracts see it as its list, what its last answered enquiry saw (the recovered history at
 /// first), beside its notes, those of the receipts that it learnt.
-#[derive(Drop)]
 pub struct Desk<N: Named> {
     desk: tap_desk::Desk<N>,
+}
+
+/// By hand, so that it is one call wherever one is dropped.
+impl<N: Named> Drop for Desk<N> {
+    fn drop(self) {
+        let Desk { desk: _ } = self;
+    }
 }
 
 impl<N: Named> Model for Desk<N> {

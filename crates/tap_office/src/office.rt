@@ -27,10 +27,16 @@ pub(crate) struct Recovered<N: Named> {
 }
 
 /// An office: any number of seats, on any threads, commit touches to one book.
-#[derive(Drop)]
 pub struct Office<N: Named, D: Disk> {
     keeper: Mutex<Keeper<N, D>>,
     recovered: Recovered<N>,
+}
+
+/// By hand, so that it is one call wherever one is dropped.
+impl<N: Named, D: Disk> Drop for Office<N, D> {
+    fn drop(self) {
+        let Office { keeper: _, recovered: _ } = self;
+    }
 }
 
 impl<N: Named, D: Disk> Office<N, D> {

@@ -15,7 +15,6 @@ use std::sync::ledger::Share;
 /// From where touches are committed, one after the other. It keeps a receipt for each new one.
 ///
 /// The receipts are what `close` accounts by: 80 bytes a touch, for as long as the seat is there.
-#[derive(Drop)]
 pub struct Seat<N: Named> {
     pub(crate) number: u16,
     pub(crate) seen: u32,
@@ -24,6 +23,19 @@ pub struct Seat<N: Named> {
     pub(crate) share: Share<N>,
     /// One part of the ledger of numbers.
     pub(crate) mark: Share<Numbers<N>>,
+}
+
+/// By hand, so that it is one call wherever one is dropped.
+impl<N: Named> Drop for Seat<N> {
+    fn drop(self) {
+        let Seat {
+            number: _,
+            seen: _,
+            receipts: _,
+            share: _,
+            mark: _,
+        } = self;
+    }
 }
 
 impl<N: Named> Model for Seat<N> {
