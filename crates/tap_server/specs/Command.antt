@@ -1,6 +1,6 @@
 -- Why a command isn't done that reads a fare table or a journal, and what is asked of a journal's seal
 -- (docs/OPERATING.md, "Faults" and "verify"; this project's choice).
-use Rattle.std.specs.Prelude.{◌≡◌, ℕ, Some}
+use Rattle.std.specs.Prelude.{◌≡◌, ℕ, List, Some}
 use Rattle.fare_table.specs.declared.fares.Fares.{Fares}
 use Rattle.fare_table.specs.declared.fault.TableFault.{TableFault}
 use Rattle.fare_table.specs.declared.fault.TableFault.TheVariants as tables
@@ -16,15 +16,23 @@ use Rattle.gate_service.specs.declared.fault.ServeFault.{ServeFault}
 use Rattle.gate_service.specs.declared.fault.ServeFault.TheVariants as serves
 use Rattle.line_replay.specs.declared.fault.RunFault.TheVariants as runs
 use Rattle.tap_office.specs.declared.fault.CloseCause.TheVariants as closes
+use Rattle.table_check.specs.Check.{fault_in}
 use Rattle.tap_server.specs.Detail.{no_detail}
 use Rattle.tap_server.specs.declared.fault.CommandFault.{CommandFault}
-use Rattle.tap_server.specs.declared.fault.CommandFault.TheVariants.{Run, Table, Supply, Journal}
+use Rattle.tap_server.specs.declared.fault.CommandFault.TheVariants.{Run, Table, File, Supply, Journal}
 use Rattle.tap_server.specs.declared.fault.CommandFault.TheVariants as faults
 
 -- a table that was refused for want of memory says nothing of the table: the run failed
 abbrev pub command_fault : TableFault → CommandFault
 command_fault tables.Memory = Run runs.Memory
 command_fault fault = Table fault no_detail
+
+-- why these bytes gave no table: their fault, or there was no memory, or a read failed
+abbrev pub IsTableFault : List ℕ → CommandFault → Type 0
+IsTableFault bytes (Table fault _) = fault_in bytes ≡ Some fault
+IsTableFault bytes (Run runs.Memory) = Unit {0}
+IsTableFault bytes (File _) = Unit {0}
+IsTableFault bytes _ = ⊥
 
 -- want of memory, and a write that failed, are faults of the run; the others of an audit are told as they are
 abbrev pub audit_fault : AuditFault → CommandFault

@@ -1,6 +1,6 @@
 pub mod Migrated
 pub mod Command
 pub mod Journals
-pub mod Check
+pub mod Told
 pub mod Detail
 pub mod Refusal

@@ -5,6 +5,7 @@ ghost use Rattle.line_replay.specs.declared.fault.RunFault.TheVariants.{Memory};
 ghost use Rattle.tap_server.specs.declared.fault.CommandFault.TheVariants.{Journal, Migrate, Run};
 ghost use Rattle.tap_server.specs.Command.{command_fault, audit_fault, serve_fault};
 ghost use Rattle.tap_server.specs.Journals.{history_fault, balances_fault};
+ghost use Rattle.tap_server.specs.Told.{told_fault};
 
 use crate::detail::Detail;
 use clap::Error as LineError;
@@ -17,6 +18,7 @@ use journal_balances::BalancesFault;
 use journal_history::HistoryFault;
 use line_replay::RunFault;
 use std::alloc::AllocError;
+use std::fmt;
 use tap_journal::{JournalFault, MigrateCause};
 use tap_office::CloseCause;
 use thiserror::Error;
@@ -25,46 +27,57 @@ use thiserror::Error;
 #[derive(Debug, Drop, Error)]
 pub enum CommandFault {
     /// The command line asks for help or the version, or for nothing that the program does.
-    #[error("{0}")]
     Line(LineError),
     /// A file of the command line can't be opened or made, or can't be read to its end.
-    #[error("fault file")]
     File(Detail),
     /// The file's fare table is refused.
-    #[error("{0}")]
     Table(TableFault, Detail),
     /// The table in the file of this place among the further ones, from 1, is refused beside the
     /// tables before it.
-    #[error("fault supply {0} {1}")]
     Supply(SupplyFault, usize),
     /// The journal can't be made or opened.
-    #[error("fault journal {0}")]
     Journal(JournalFault),
     /// The journal can't be carried over to the new file.
-    #[error("fault migrate {0}")]
     Migrate(MigrateCause),
     /// The journal isn't the one that was sealed.
-    #[error("fault seal {0}")]
     Seal(SealFault),
     /// The journal has fewer touches than balances were asked for behind: it has so many.
-    #[error("fault place {0}")]
     Place(u32),
     /// What was paid in on the card of this number, less what it was charged, isn't its balance. No run
     /// shows it.
-    #[error("fault balance {0}")]
     Balance(u32),
     /// The address can't be listened on.
-    #[error("fault listen")]
     Listen(Detail),
     /// Not as many seats came back to the closing as were made. No run shows it.
-    #[error("fault close 1 SeatMissing")]
     SeatMissing,
     /// A receipt doesn't stand at its place. No run shows it.
-    #[error("fault close 2 Mismatch")]
     Mismatch,
     /// The run over the input ended early.
-    #[error("{0}")]
     Run(RunFault),
+}
+
+/// Prints the line that standard error gets of the fault, without its line feed. It is written by
+/// hand, since the derive doesn't state what it prints.
+impl fmt::Display for CommandFault {
+    ghost output = { told_fault };
+
+    fn fmt<W: fmt::Write>(&self, f: &mut fmt::Formatter<W>) -> fmt::Result {
+        match self {
+            CommandFault::Line(error) => write!(f, "{error}"),
+            CommandFault::File(_) => f.write_str("fault file"),
+            CommandFault::Table(fault, _) => write!(f, "{fault}"),
+            CommandFault::Supply(fault, place) => write!(f, "fault supply {fault} {place}"),
+            CommandFault::Journal(fault) => write!(f, "fault journal {fault}"),
+            CommandFault::Migrate(cause) => write!(f, "fault migrate {cause}"),
+            CommandFault::Seal(fault) => write!(f, "fault seal {fault}"),
+            CommandFault::Place(touches) => write!(f, "fault place {touches}"),
+            CommandFault::Balance(card) => write!(f, "fault balance {card}"),
+            CommandFault::Listen(_) => f.write_str("fault listen"),
+            CommandFault::SeatMissing => f.write_str("fault close 1 SeatMissing"),
+            CommandFault::Mismatch => f.write_str("fault close 2 Mismatch"),
+            CommandFault::Run(fault) => write!(f, "{fault}"),
+        }
+    }
 }
 
 impl CommandFault {

@@ -1,6 +1,6 @@
 //! The tap server's program: it reads its command line, calls what is proved, and prints. Its main
-//! promises are those of `replay_text` and `check_table`: what is written is a stated function of
-//! what is read.
+//! promises are those of `replay_text` and `check_table`, in the crates below: what is written is a
+//! stated function of what is read.
 #![tactic(auto)]
 
 ghost use Rattle.command_line.specs.Arguments.{IsWithin};
@@ -8,7 +8,6 @@ ghost use Rattle.command_line.specs.Arguments.{IsWithin};
 mod audit;
 mod balances;
 mod behind;
-mod check;
 mod detail;
 mod fault;
 mod history;
@@ -125,6 +124,3 @@ fn tell<R: Print + Eprint>(rt: &R, fault: CommandFault) -> io::Result<ExitCode> 
         }
     }
 }
-
-#[cfg(test)]
-mod tests;

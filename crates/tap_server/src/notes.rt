@@ -1,6 +1,5 @@
 //! The command `check`: a table's report, and notes on standard error on what is beside it.
 
-use crate::check::check_table;
 use crate::detail::Said;
 use crate::fault::CommandFault;
 use crate::tables::{TURNS, bytes_in};
@@ -8,6 +7,7 @@ use line_replay::RunFault;
 use std::io;
 use std::process::ExitCode;
 use std::rt::Files;
+use table_check::check_table;
 use table_notes::{Misread, Survey, SurveyFault, look_over};
 
 /// Checks the fare table in a file, and writes to standard output what it is. Standard error is told

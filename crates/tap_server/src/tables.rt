@@ -1,11 +1,12 @@
 //! The fare tables that a command's words name, and what is told of one that is refused.
 
-ghost use Rattle.std.specs.Prelude.{◌≡◌, ◌++◌, ◌∷◌, [], None, IfOk, IfErr, OnOk, OnErr};
+ghost use Rattle.std.specs.Prelude.{◌≡◌, ◌++◌, ◌∷◌, ℕ, List, [], None, IfOk, IfErr, OnOk, OnErr};
+ghost use Rattle.std.specs.Io.KnownBytes.{Consumes, IsAtEnd};
 ghost use Rattle.fare_schedule.specs.Schedule.{tables_of, revisions_of};
 ghost use Rattle.fare_schedule.specs.Supply.{supply_fault};
-ghost use Rattle.tap_server.specs.Command.{IsSupplyFault};
+ghost use Rattle.fare_table.specs.Table.{IsTableOf};
+ghost use Rattle.tap_server.specs.Command.{IsSupplyFault, IsTableFault};
 
-use crate::check::table_of;
 use crate::detail::Detail;
 use crate::fault::CommandFault;
 use crate::refusal::{open_refusal, read_refusal};
@@ -14,7 +15,9 @@ use fare_table::{EXAMPLE_TABLE, Fares, TableFault};
 use line_replay::{RunFault, read_all};
 use std::alloc::Global;
 use std::fs::File;
+use std::io::Read;
 use std::rt::Files;
+use table_check::read_table;
 use table_notes::{Survey, SurveyFault, look_over};
 
 /// How many reads are made of a table's file at most.
@@ -44,7 +47,7 @@ pub(crate) fn schedule_of<R: AllocGlobal + Files>(
     let mut place = 0;
     for path in revisions {
         place += 1;
-        supply(&mut schedule, table_in(rt, path)?, place)?;
+        supply_from(rt, &mut schedule, path, place)?;
     }
     Ok(schedule)
 }
@@ -58,6 +61,20 @@ pub(crate) fn tables_in<R: AllocGlobal + Files>(
     ensures { IfOk result (λ schedule. revisions_of schedule ≡ []) }
 {
     schedule_of(rt, first_table(rt, Some(first))?, revisions)
+}
+
+/// Adds the table in a file to a schedule: the one of this place among the further tables, from 1.
+fn supply_from<R: AllocGlobal + Files>(
+    rt: &R,
+    schedule: &mut Schedule,
+    path: &str,
+    place: usize,
+) -> Result<(), CommandFault>
+    ensures revisions { revisions_of schedule.new ≡ revisions_of schedule.old }
+    ensures kept { OnErr result (tables_of schedule.new ≡ tables_of schedule.old) }
+{
+    let table = table_in(rt, path)?;
+    supply(schedule, table, place)
 }
 
 /// Adds a further table to a schedule. A fault is told with the table's place among them, from 1.
@@ -88,6 +105,23 @@ fn table_in<R: AllocGlobal + Files>(rt: &R, path: &str) -> Result<Fares, Command
         }
         Err(fault) => Err(fault),
     }
+}
+
+/// Reads a fare table to its end. A fault is that of the table, `File` where a read failed, or
+/// `Memory`.
+fn table_of<R: Read>(alloc: Global, reader: &mut R, turns: u32) -> Result<Fares, CommandFault>
+    ensures read { IfOk result (λ fares. (bytes : List ℕ)
+        × Consumes (R.remaining reader.old) (R.remaining reader.new) bytes × IsTableOf bytes fares) }
+    ensures end { IfOk result (λ _. IsAtEnd (R.remaining reader.new)) }
+    ensures fault { IfErr result (λ fault. (bytes : List ℕ)
+        × Consumes (R.remaining reader.old) (R.remaining reader.new) bytes × IsTableFault bytes fault) }
+{
+    let bytes = match read_all(alloc, reader, turns) {
+        Ok(bytes) => bytes,
+        Err(RunFault::Read) => return Err(CommandFault::File(Detail::none())),
+        Err(fault) => return Err(fault.into()),
+    };
+    Ok(read_table(alloc, &bytes)?)
 }
 
 /// What a file holds, read to its end.

@@ -16,11 +16,9 @@ use Rattle.fare_table.specs.declared.key.Key.TheVariants as key
 use Rattle.fare_table.specs.declared.fares.Fares.{Fares}
 use Rattle.fare_table.specs.declared.fault.TableFault.{TableFault}
 use Rattle.fare_table.specs.declared.fault.TableFault.TheVariants.{NotToml}
-use Rattle.tap_server.specs.declared.check.TableReport.{TableReport as Written}
+use Rattle.table_check.specs.declared.check.TableReport.{TableReport as Written}
 use Rattle.line_replay.specs.declared.fault.RunFault.{RunFault}
 use Rattle.line_replay.specs.declared.fault.RunFault.TheVariants.{Memory, Read, Write, BadLine}
-use Rattle.tap_server.specs.declared.fault.CommandFault.{CommandFault}
-use Rattle.tap_server.specs.declared.fault.CommandFault.TheVariants.{File, Table, Run}
 use Rattle.line_replay.specs.declared.hex_line.TheConstants.{LINE_FEED}
 use Rattle.gate_session.specs.Writing.{IsBeginning}
 
@@ -74,13 +72,6 @@ report_of bytes = if is_utf8 bytes then text_report bytes (parse_document bytes)
 -- the first fault of the table that some bytes hold
 abbrev pub fault_in : List ℕ → Option TableFault
 fault_in bytes = if is_utf8 bytes then first_fault bytes else Some NotToml
-
--- why these bytes gave no table: their fault, or there was no memory, or a read failed
-abbrev pub IsTableFault : List ℕ → CommandFault → Type 0
-IsTableFault bytes (Table fault _) = fault_in bytes ≡ Some fault
-IsTableFault bytes (Run Memory) = Unit {0}
-IsTableFault bytes (File _) = Unit {0}
-IsTableFault bytes _ = ⊥
 
 -- the program's report has this text and says so of the table
 pub record IsReport (written : Written) (report : TableReport) : Type 0 where

@@ -1,14 +1,12 @@
 //! The check of a fare table: what is written says whether the table is valid, or what is wrong with it.
 
-ghost use Rattle.std.specs.Prelude.{◌≡◌, ◌≢◌, ℕ, List, string_bytes, IfOk, IfErr, None, Some};
-ghost use Rattle.std.specs.Io.KnownBytes.{Consumes, IsAtEnd};
+ghost use Rattle.std.specs.Prelude.{◌≡◌, ◌≢◌, string_bytes, IfOk, IfErr, None, Some};
+ghost use Rattle.std.specs.Io.KnownBytes.{IsAtEnd};
 ghost use Rattle.gate_session.specs.Writing.{Ran};
 ghost use Rattle.fare_table.specs.Table.{IsTableOf};
 ghost use Rattle.fare_table.specs.declared.fault.TableFault.TheVariants as fault;
-ghost use Rattle.tap_server.specs.Check.{report_of, fault_in, lines_of_table, HasChecked, IsReport, IsTableFault};
+ghost use Rattle.table_check.specs.Check.{report_of, fault_in, lines_of_table, HasChecked, IsReport};
 
-use crate::detail::Detail;
-use crate::fault::CommandFault;
 use fare_table::{Fares, TableFault};
 use gate_session::write_text;
 use line_replay::{RunFault, read_all};
@@ -43,27 +41,6 @@ pub fn check_table<R: Read, W: Write>(
     Ok(report.is_valid)
 }
 
-/// Reads a fare table to its end. A fault is that of the table, `File` where a read failed, or
-/// `Memory`.
-pub(crate) fn table_of<R: Read>(
-    alloc: Global,
-    reader: &mut R,
-    turns: u32,
-) -> Result<Fares, CommandFault>
-    ensures read { IfOk result (λ fares. (bytes : List ℕ)
-        × Consumes (R.remaining reader.old) (R.remaining reader.new) bytes × IsTableOf bytes fares) }
-    ensures end { IfOk result (λ _. IsAtEnd (R.remaining reader.new)) }
-    ensures fault { IfErr result (λ fault. (bytes : List ℕ)
-        × Consumes (R.remaining reader.old) (R.remaining reader.new) bytes × IsTableFault bytes fault) }
-{
-    let bytes = match read_all(alloc, reader, turns) {
-        Ok(bytes) => bytes,
-        Err(RunFault::Read) => return Err(CommandFault::File(Detail::none())),
-        Err(fault) => return Err(fault.into()),
-    };
-    Ok(read_table(alloc, &bytes)?)
-}
-
 /// What is written for the bytes of a table.
 fn report(alloc: Global, bytes: &[u8]) -> Result<TableReport, AllocError>
     ensures { IfOk result (λ report. IsReport report (report_of bytes.now)) }
@@ -82,7 +59,9 @@ fn report(alloc: Global, bytes: &[u8]) -> Result<TableReport, AllocError>
 }
 
 /// The table that bytes hold. Bytes that are no UTF-8 are no TOML document.
-fn read_table(alloc: Global, bytes: &[u8]) -> Result<Fares, TableFault>
+///
+/// `Memory` says nothing of the bytes. Any other fault is their first one (docs/TABLE.md, "Faults").
+pub fn read_table(alloc: Global, bytes: &[u8]) -> Result<Fares, TableFault>
     ensures ok { IfOk result (IsTableOf bytes.now) }
     ensures no_fault { IfOk result (λ _. fault_in bytes.now ≡ None) }
     ensures fault { IfErr result (λ found. found ≢ fault.Memory → fault_in bytes.now ≡ Some found) }

@@ -1,7 +1,7 @@
 use Rattle.std.proofs.Common.{◌≢◌, ap, sym, ◌∙◌, rules}
 use Rattle.fare_table.specs.declared.fault.TableFault.TheVariants.{Memory}
-use Rattle.tap_server.proofs.CheckLemmas.{report_of-valid, report_of-refused}
-use Rattle.tap_server.proofs.check.report.Goals as goal
+use Rattle.table_check.proofs.CheckLemmas.{report_of-valid, report_of-refused}
+use Rattle.table_check.proofs.check.report.Goals as goal
 
 pub returns-in_ok-table_lines-in-Ok : goal.returns-in_ok-table_lines-in-Ok
 returns-in_ok-table_lines-in-Ok c =

@@ -10,7 +10,7 @@ use Rattle.fare_table.specs.Faults.{faults, first_fault, first_fault_of}
 use Rattle.fare_table.specs.declared.fares.Fares.{Fares}
 use Rattle.fare_table.specs.declared.fault.TableFault.{TableFault}
 use Rattle.fare_table.specs.declared.fault.TableFault.TheVariants.{NotToml}
-use Rattle.tap_server.specs.Check.{report_of, text_report, tree_report, refused_table, table_lines, lines_of_table, fault_in}
+use Rattle.table_check.specs.Check.{report_of, text_report, tree_report, refused_table, table_lines, lines_of_table, fault_in}
 
 -- ---- texts
 

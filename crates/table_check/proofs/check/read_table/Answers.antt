@@ -1,10 +1,10 @@
 use Rattle.std.proofs.Common.{◌≡◌, ◌≢◌, None, Some, IfOk, IfErr, subst, sym, ap, ◌∙◌}
 use Rattle.fare_table.specs.Faults.{first_fault}
 use Rattle.fare_table.specs.declared.fault.TableFault.TheVariants.{Memory}
-use Rattle.tap_server.specs.Check.{fault_in}
-use Rattle.tap_server.proofs.CheckLemmas.{fault_in-text, fault_in-other}
-use Rattle.tap_server.proofs.check.read_table.Goals as goal
-use Rattle.tap_server.proofs.check.read_table.Goals.{After-read}
+use Rattle.table_check.specs.Check.{fault_in}
+use Rattle.table_check.proofs.CheckLemmas.{fault_in-text, fault_in-other}
+use Rattle.table_check.proofs.check.read_table.Goals as goal
+use Rattle.table_check.proofs.check.read_table.Goals.{After-read}
 
 -- the text that was read has the faults of the bytes
 same : (c : After-read) → first_fault c.in-Ok.text.now ≡ fault_in c.args.bytes.now
