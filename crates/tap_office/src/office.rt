@@ -35,7 +35,10 @@ pub struct Office<N: Named, D: Disk> {
 /// By hand, so that it is one call wherever one is dropped.
 impl<N: Named, D: Disk> Drop for Office<N, D> {
     fn drop(self) {
-        let Office { keeper: _, recovered: _ } = self;
+        let Office {
+            keeper: _,
+            recovered: _,
+        } = self;
     }
 }
 

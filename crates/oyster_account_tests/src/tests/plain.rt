@@ -34,7 +34,11 @@ struct Travel {
 /// By hand, so that it is one call wherever one is dropped.
 impl Drop for Travel {
     fn drop(self) {
-        let Travel { taps: _, legs: _, journeys: _ } = self;
+        let Travel {
+            taps: _,
+            legs: _,
+            journeys: _,
+        } = self;
     }
 }
 
