@@ -4,16 +4,38 @@ mod journals;
 use clap::error::ErrorKind;
 use command_line::{arguments_of, refuse_bytes};
 use std::alloc::Global;
+use std::fmt::Debug;
 use std::process::Abort;
 use std::test::Fail;
 
-/// The words of a command line, behind the program's name.
-fn words_of<'a>(alloc: Global, line: &'a str) -> Option<Vec<&'a str>> {
-    let mut words = Vec::new(alloc);
+/// These are equal.
+fn assert_same<T: PartialEq + Debug + Copy>(rt: &impl Abort, found: T, want: T) {
+    assert_eq!(rt; found, want);
+}
+
+/// These are equal, in this case.
+fn assert_same_at<T: PartialEq + Debug + Copy, C: Debug + Copy>(
+    rt: &impl Abort,
+    found: T,
+    want: T,
+    at: C,
+) {
+    assert_eq!(rt; found, want, "{at:?}");
+}
+
+/// Adds the program's name, and behind it the words of a command line.
+fn add_words<'a>(words: &mut Vec<&'a str>, line: &'a str) -> Option<()> {
     words.push("bovtrila").ok()?;
     for word in line.split(' ') {
         words.push(word).ok()?;
     }
+    Some(())
+}
+
+/// The words of a command line, behind the program's name.
+fn words_of<'a>(alloc: Global, line: &'a str) -> Option<Vec<&'a str>> {
+    let mut words = Vec::new(alloc);
+    add_words(&mut words, line)?;
     Some(words)
 }
 
@@ -34,7 +56,7 @@ fn asked(alloc: Global, line: &str) -> Option<String> {
 fn assert_asked(rt: &impl Abort, alloc: Global, rows: &[(&str, &str)]) {
     for (line, wanted) in rows {
         let told = asked(alloc, line).expect(rt, "a command");
-        assert_eq!(rt; told.as_str(), *wanted, "{line}");
+        assert_same_at(rt, told.as_str(), *wanted, *line);
     }
 }
 
@@ -42,7 +64,7 @@ fn assert_asked(rt: &impl Abort, alloc: Global, rows: &[(&str, &str)]) {
 fn assert_refused(rt: &impl Abort, alloc: Global, lines: &[&str]) {
     for line in lines {
         let words = words_of(alloc, line).expect(rt, "words");
-        assert_eq!(rt; status_of(alloc, words.as_slice()), Some(2), "{line}");
+        assert_same_at(rt, status_of(alloc, words.as_slice()), Some(2), *line);
     }
 }
 
@@ -98,17 +120,22 @@ fn help_of(alloc: Global, command: &str) -> Option<String> {
     }
 }
 
+/// This text tells how a command is used by the program's own name, and has this example.
+/// None of its lines has more than a hundred columns.
+fn assert_shows(rt: &impl Abort, text: &str, used: &str, example: &str) {
+    let is_told = text.contains(used) && text.contains(example);
+    assert_same_at(rt, is_told && !text.contains("tap_server"), true, text);
+    for line in text.lines() {
+        assert_same_at(rt, line.chars().count() <= 100, true, line);
+    }
+}
+
 /// The help of this command tells how it is used by the program's own name, and has this example.
 /// None of its lines has more than a hundred columns.
 fn assert_help(rt: &impl Abort, alloc: Global, command: &str, usage: &str, example: &str) {
     let help = help_of(alloc, command).expect(rt, "a help");
-    let text = help.as_str();
     let used = format!(in alloc; "\nUsage: bovtrila {command} {usage}").expect(rt, "a usage");
-    let is_told = text.contains(used.as_str()) && text.contains(example);
-    assert!(rt; is_told && !text.contains("tap_server"), "{text}");
-    for line in text.lines() {
-        assert!(rt; line.chars().count() <= 100, "{line}");
-    }
+    assert_shows(rt, help.as_str(), used.as_str(), example);
 }
 
 #[test]
@@ -164,10 +191,10 @@ fn any_other_command_line_is_refused(rt: HostRuntime) {
         "check --table fares.toml --cards 10",
     ];
     assert_refused(&rt, alloc, &refused);
-    assert_eq!(rt; status_of(alloc, &["bovtrila"]), Some(2));
+    assert_same(&rt, status_of(alloc, &["bovtrila"]), Some(2));
     for command in ["replay", "check"] {
         let words = ["bovtrila", command, "--help"];
-        assert_eq!(rt; status_of(alloc, &words), Some(0), "{command}");
+        assert_same_at(&rt, status_of(alloc, &words), Some(0), command);
     }
 }
 
@@ -176,13 +203,14 @@ fn the_version_names_the_toolchain_that_proved_it(rt: HostRuntime) -> Result<(),
     let alloc = rt.alloc();
     let words = ["bovtrila", "--version"];
     let shown = arguments_of(alloc, &words).err().ok_or("a version")?;
-    assert_eq!(rt; shown.kind(), ErrorKind::DisplayVersion);
-    assert_eq!(rt; shown.exit_code(), 0);
-    assert!(rt; !shown.use_stderr());
+    assert_same(&rt, shown.kind(), ErrorKind::DisplayVersion);
+    assert_same(&rt, shown.exit_code(), 0);
+    assert_same(&rt, shown.use_stderr(), false);
     let text = format!(in alloc; "{shown}")?;
-    assert_eq!(rt;
+    assert_same(
+        &rt,
         text.as_str(),
-        "bovtrila 1.0.0\nproved by rattle-kit-13f logic dac8208d650f15bf\n"
+        "bovtrila 1.0.0\nproved by rattle-kit-13f logic dac8208d650f15bf\n",
     );
     Ok(())
 }

@@ -14,6 +14,3 @@ mod stations;
 pub use fault::SupplyFault;
 pub use laws::last_revision_counts;
 pub use schedule::{Schedule, TABLE_LIMIT};
-
-#[cfg(test)]
-mod tests;

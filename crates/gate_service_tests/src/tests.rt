@@ -8,10 +8,26 @@ mod sessions;
 use fare_schedule::Schedule;
 use fare_table::{EXAMPLE_TABLE, Fares};
 use std::alloc::Global;
+use std::fmt::Debug;
 use std::process::Abort;
 use tap_disk::{Choice, MemoryDisk};
 use tap_journal::Journal;
 use tap_office::Opening;
+
+/// These are equal.
+fn assert_same<T: PartialEq + Debug + Copy>(rt: &impl Abort, found: T, want: T) {
+    assert_eq!(rt; found, want);
+}
+
+/// These are equal, in this case.
+fn assert_same_at<T: PartialEq + Debug + Copy, C: Debug + Copy>(
+    rt: &impl Abort,
+    found: T,
+    want: T,
+    at: C,
+) {
+    assert_eq!(rt; found, want, "{at:?}");
+}
 
 /// A disk in memory with a new journal of a table, for so many touches of 10 cards.
 fn new_disk(alloc: Global, digest: &[u8; 32], capacity: u32) -> Option<MemoryDisk> {

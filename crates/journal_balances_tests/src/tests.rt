@@ -11,6 +11,8 @@ use fare_table::{EXAMPLE_TABLE, Fares};
 use journal_balances::{BalancesFault, Totals, write_balances};
 use oyster_account::{Act, Touch};
 use std::alloc::Global;
+use std::fmt::Debug;
+use std::process::Abort;
 use std::test::Fail;
 use tap_journal::JournalFault;
 
@@ -60,6 +62,84 @@ const WORKED: [Deed; 4] = [
     ),
 ];
 
+/// Deeds of three cards. Refused are the first touch in of card 1, with 189 on it, that of card 2,
+/// which wasn't issued, and the top-up of card 3 by more than 50000.
+const REFUSED: [Deed; 12] = [
+    (3, Act::Issue { moment: EIGHT }),
+    (1, Act::Issue { moment: EIGHT }),
+    (
+        1,
+        Act::TopUp {
+            pence: 189,
+            moment: EIGHT,
+        },
+    ),
+    (
+        1,
+        Act::Enter {
+            station: 2,
+            moment: EIGHT - 600,
+        },
+    ),
+    (
+        2,
+        Act::Enter {
+            station: 2,
+            moment: EIGHT,
+        },
+    ),
+    (
+        3,
+        Act::TopUp {
+            pence: 2_000,
+            moment: EIGHT,
+        },
+    ),
+    (
+        3,
+        Act::TopUp {
+            pence: 50_001,
+            moment: EIGHT,
+        },
+    ),
+    (
+        1,
+        Act::TopUp {
+            pence: 1,
+            moment: EIGHT,
+        },
+    ),
+    (
+        1,
+        Act::Enter {
+            station: 2,
+            moment: EIGHT,
+        },
+    ),
+    (
+        3,
+        Act::Leave {
+            station: 1,
+            moment: EIGHT,
+        },
+    ),
+    (
+        1,
+        Act::Revise {
+            digest: EXAMPLE_DIGEST,
+            day: 20_100,
+            moment: EIGHT,
+        },
+    ),
+    (
+        3,
+        Act::Enter {
+            station: 4,
+            moment: EIGHT + 300,
+        },
+    ),
+];
+
 /// A schedule of the example table alone. There is none for want of memory.
 fn example(alloc: Global) -> Option<Schedule>
     ensures { IfSome result (λ schedule. revisions_of schedule ≡ []) }
@@ -68,29 +148,34 @@ fn example(alloc: Global) -> Option<Schedule>
     Schedule::new(alloc, first).ok()
 }
 
-/// The journal of these deeds, numbered from 1 by gate 7, with slots of this size and a closed mark.
+/// The slot of a deed, with this number of gate 7. In the first format it is the first 32 bytes.
+fn slot_of(number: u32, deed: &Deed) -> [u8; 64] {
+    let (card, act) = deed;
+    let touch = Touch {
+        gate: 7,
+        number,
+        card: *card,
+        act: *act,
+    };
+    let mut touch_bytes = [0; 51];
+    touch.write_into(&mut touch_bytes);
+    let mut slot = [0; 64];
+    slot[0] = 0xa5;
+    slot[1..52].copy_from_slice(&touch_bytes);
+    slot
+}
+
+/// The journal of these deeds, numbered from 0 by gate 7, with slots of this size and a closed
+/// mark.
 fn journal(alloc: Global, version: u8, slot_size: usize, deeds: &[Deed]) -> Option<Vec<u8>> {
     let mut bytes = Vec::new(alloc);
     bytes.extend_from_slice(&HEADER).ok()?;
     if let Some(place) = bytes.get_mut(8) {
         *place = version;
     }
-    for (place, (card, act)) in deeds.iter().enumerate() {
-        let mut touch_bytes = [0; 51];
-        let touch = Touch {
-            gate: 7,
-            number: u32::try_from(place).ok()?,
-            card: *card,
-            act: *act,
-        };
-        let size = touch.write_into(&mut touch_bytes);
-        bytes.push(0xa5).ok()?;
-        bytes
-            .extend_from_slice(touch_bytes.get(..size).unwrap_or(&[]))
-            .ok()?;
-        for _ in size.saturating_add(1)..slot_size {
-            bytes.push(0).ok()?;
-        }
+    for (place, deed) in deeds.iter().enumerate() {
+        let slot = slot_of(u32::try_from(place).ok()?, deed);
+        bytes.extend_from_slice(slot.get(..slot_size)?).ok()?;
     }
     bytes.push(0).ok()?;
     Some(bytes)
@@ -117,6 +202,49 @@ fn totals(cards: u32, paid_in: u64, charged: i64, balance: i64) -> Totals {
         charged,
         balance,
     }
+}
+
+/// These are equal.
+fn assert_same<T: PartialEq + Debug + Copy>(rt: &impl Abort, found: T, want: T) {
+    assert_eq!(rt; found, want);
+}
+
+/// These are equal, in the case that is named.
+fn assert_same_at<T: PartialEq + Debug + Copy, C: Debug + Copy>(
+    rt: &impl Abort,
+    found: T,
+    want: T,
+    at: C,
+) {
+    assert_eq!(rt; found, want, "{at:?}");
+}
+
+/// The balances at a place of some bytes have these rows, and end with these totals.
+fn assert_told<R: Abort + AllocGlobal>(
+    rt: &R,
+    at: Option<u32>,
+    bytes: &[u8],
+    rows: &str,
+    want: Totals,
+) -> Result<(), Fail> {
+    let (text, ended) = told(rt.alloc(), at, bytes)?;
+    assert_same(rt, ended, Ok(want));
+    let lines = format!(in rt.alloc(); "{HEADING}{rows}")?;
+    assert_same(rt, text.as_str(), lines.as_str());
+    Ok(())
+}
+
+/// The balances at a place of some bytes end with this fault, and nothing is written.
+fn assert_refused<R: Abort + AllocGlobal>(
+    rt: &R,
+    at: Option<u32>,
+    bytes: &[u8],
+    want: BalancesFault,
+) -> Result<(), Fail> {
+    let (text, ended) = told(rt.alloc(), at, bytes)?;
+    assert_same(rt, ended, Err(want));
+    assert_same(rt, text.as_str(), "");
+    Ok(())
 }
 
 #[test]
@@ -149,9 +277,7 @@ fn a_card_has_a_row_at_each_place(rt: HostRuntime) -> Result<(), Fail> {
     for (version, size) in [(b'2', 64), (b'1', 32)] {
         let bytes = journal(alloc, version, size, &WORKED).ok_or("a journal")?;
         for (at, row, want) in rows {
-            let (text, ended) = told(alloc, at, &bytes)?;
-            assert_eq!(rt; ended, Ok(want));
-            assert_eq!(rt; text, format!(in alloc; "{HEADING}{row}")?);
+            assert_told(&rt, at, &bytes, row, want)?;
         }
     }
     Ok(())
@@ -160,87 +286,9 @@ fn a_card_has_a_row_at_each_place(rt: HostRuntime) -> Result<(), Fail> {
 #[test]
 fn refused_touches_and_revisions_count_for_no_card(rt: HostRuntime) -> Result<(), Fail> {
     let alloc = rt.alloc();
-    // Refused are the first touch in of card 1, with 189 on it, that of card 2, which wasn't issued,
-    // and the top-up of card 3 by more than 50000.
-    let revision = Act::Revise {
-        digest: EXAMPLE_DIGEST,
-        day: 20_100,
-        moment: EIGHT,
-    };
-    let deeds = [
-        (3, Act::Issue { moment: EIGHT }),
-        (1, Act::Issue { moment: EIGHT }),
-        (
-            1,
-            Act::TopUp {
-                pence: 189,
-                moment: EIGHT,
-            },
-        ),
-        (
-            1,
-            Act::Enter {
-                station: 2,
-                moment: EIGHT - 600,
-            },
-        ),
-        (
-            2,
-            Act::Enter {
-                station: 2,
-                moment: EIGHT,
-            },
-        ),
-        (
-            3,
-            Act::TopUp {
-                pence: 2_000,
-                moment: EIGHT,
-            },
-        ),
-        (
-            3,
-            Act::TopUp {
-                pence: 50_001,
-                moment: EIGHT,
-            },
-        ),
-        (
-            1,
-            Act::TopUp {
-                pence: 1,
-                moment: EIGHT,
-            },
-        ),
-        (
-            1,
-            Act::Enter {
-                station: 2,
-                moment: EIGHT,
-            },
-        ),
-        (
-            3,
-            Act::Leave {
-                station: 1,
-                moment: EIGHT,
-            },
-        ),
-        (1, revision),
-        (
-            3,
-            Act::Enter {
-                station: 4,
-                moment: EIGHT + 300,
-            },
-        ),
-    ];
-    let bytes = journal(alloc, b'2', 64, &deeds).ok_or("a journal")?;
-    let (text, ended) = told(alloc, None, &bytes)?;
-    assert_eq!(rt; ended, Ok(totals(2, 2_190, 2_700, -510)));
+    let bytes = journal(alloc, b'2', 64, &REFUSED).ok_or("a journal")?;
     let rows = "1,inside,-710,190,900\r\n3,inside,200,2000,1800\r\n";
-    assert_eq!(rt; text, format!(in alloc; "{HEADING}{rows}")?);
-    Ok(())
+    assert_told(&rt, None, &bytes, rows, totals(2, 2_190, 2_700, -510))
 }
 
 #[test]
@@ -257,11 +305,10 @@ fn the_first_cause_is_told_and_nothing_is_written(rt: HostRuntime) -> Result<(),
         (Some(4), damaged),
         (None, damaged),
     ] {
-        let (text, ended) = told(alloc, at, &bytes)?;
-        assert_eq!(rt; ended, Err(want));
-        assert_eq!(rt; text.as_str(), "");
+        assert_refused(&rt, at, &bytes, want)?;
     }
-    assert!(rt; told(alloc, Some(3), &bytes)?.1.is_ok());
+    let (_, ended) = told(alloc, Some(3), &bytes)?;
+    assert_same(&rt, ended.is_ok(), true);
     for (place, want) in [
         (17, JournalFault::WrongTable),
         (0, JournalFault::NotAJournal),
@@ -269,9 +316,7 @@ fn the_first_cause_is_told_and_nothing_is_written(rt: HostRuntime) -> Result<(),
         if let Some(byte) = bytes.get_mut(place) {
             *byte = 0;
         }
-        let (text, ended) = told(alloc, Some(5), &bytes)?;
-        assert_eq!(rt; ended, Err(BalancesFault::Journal(want)));
-        assert_eq!(rt; text.as_str(), "");
+        assert_refused(&rt, Some(5), &bytes, BalancesFault::Journal(want))?;
     }
     Ok(())
 }

@@ -13,6 +13,8 @@ use fare_schedule::Schedule;
 use fare_table::{EXAMPLE_TABLE, Fares};
 use journal_history::{HistoryFault, HistoryFormat, Wanted, write_history};
 use std::alloc::{AllocError, Global};
+use std::fmt::Debug;
+use std::process::Abort;
 use std::test::Fail;
 use tap_journal::JournalFault;
 
@@ -100,15 +102,61 @@ fn told(
     Ok((text, ended))
 }
 
+/// These are equal.
+fn assert_same<T: PartialEq + Debug + Copy>(rt: &impl Abort, found: T, want: T) {
+    assert_eq!(rt; found, want);
+}
+
+/// These are equal, in the case that is named.
+fn assert_same_at<T: PartialEq + Debug + Copy, C: Debug + Copy>(
+    rt: &impl Abort,
+    found: T,
+    want: T,
+    at: C,
+) {
+    assert_eq!(rt; found, want, "{at:?}");
+}
+
+/// The touches that are wanted of a journal's bytes are told by this text.
+fn assert_told<R: Abort + AllocGlobal>(
+    rt: &R,
+    wanted: Wanted,
+    format: HistoryFormat,
+    bytes: &[u8],
+    want: &str,
+) -> Result<(), Fail> {
+    let (text, ended) = told(rt.alloc(), wanted, format, bytes)?;
+    assert_same(rt, ended, Ok(()));
+    assert_same(rt, text.as_str(), want);
+    Ok(())
+}
+
+/// This fault of a journal's bytes is told, and nothing is written.
+fn assert_refused<R: Abort + AllocGlobal>(
+    rt: &R,
+    format: HistoryFormat,
+    bytes: &[u8],
+    want: JournalFault,
+) -> Result<(), Fail> {
+    let (text, ended) = told(rt.alloc(), ALL, format, bytes)?;
+    assert_same(rt, ended, Err(HistoryFault::Journal(want)));
+    assert_same(rt, text.as_str(), "");
+    Ok(())
+}
+
+/// The heading and the four rows of the worked journal.
+fn worked_rows(alloc: Global) -> Result<String, AllocError> {
+    let rows = text_of(alloc, &ROWS, "\r\n")?;
+    format!(in alloc; "{HEADING}\r\n{rows}")
+}
+
 #[test]
 fn a_history_is_told_in_rows(rt: HostRuntime) -> Result<(), Fail> {
     let alloc = rt.alloc();
+    let rows = worked_rows(alloc)?;
     for old in [false, true] {
         let bytes = journal(alloc, old, &FRAMES).ok_or("a journal")?;
-        let (text, ended) = told(alloc, ALL, HistoryFormat::Csv, &bytes)?;
-        assert_eq!(rt; ended, Ok(()));
-        let rows = text_of(alloc, &ROWS, "\r\n")?;
-        assert_eq!(rt; text, format!(in alloc; "{HEADING}\r\n{rows}")?);
+        assert_told(&rt, ALL, HistoryFormat::Csv, &bytes, rows.as_str())?;
     }
     Ok(())
 }
@@ -117,23 +165,29 @@ fn a_history_is_told_in_rows(rt: HostRuntime) -> Result<(), Fail> {
 fn a_history_is_told_in_frames(rt: HostRuntime) -> Result<(), Fail> {
     let alloc = rt.alloc();
     let bytes = journal(alloc, false, &FRAMES).ok_or("a journal")?;
-    let (text, ended) = told(alloc, ALL, HistoryFormat::Frames, &bytes)?;
-    assert_eq!(rt; ended, Ok(()));
-    assert_eq!(rt; text, text_of(alloc, &FRAMES, "\n")?);
-    Ok(())
+    let frames = text_of(alloc, &FRAMES, "\n")?;
+    assert_told(&rt, ALL, HistoryFormat::Frames, &bytes, frames.as_str())
 }
 
 #[test]
 fn a_journal_of_no_touch_has_the_heading_alone(rt: HostRuntime) -> Result<(), Fail> {
     let alloc = rt.alloc();
     let bytes = journal(alloc, false, &[]).ok_or("a journal")?;
-    let (text, ended) = told(alloc, ALL, HistoryFormat::Csv, &bytes)?;
-    assert_eq!(rt; ended, Ok(()));
-    assert_eq!(rt; text, format!(in alloc; "{HEADING}\r\n")?);
-    let (text, ended) = told(alloc, ALL, HistoryFormat::Frames, &bytes)?;
-    assert_eq!(rt; ended, Ok(()));
-    assert_eq!(rt; text.as_str(), "");
-    Ok(())
+    let heading = format!(in alloc; "{HEADING}\r\n")?;
+    assert_told(&rt, ALL, HistoryFormat::Csv, &bytes, heading.as_str())?;
+    assert_told(&rt, ALL, HistoryFormat::Frames, &bytes, "")
+}
+
+/// With one of its bytes changed, the worked journal has this fault.
+fn assert_refused_with<R: Abort + AllocGlobal>(
+    rt: &R,
+    at: usize,
+    byte: u8,
+    want: JournalFault,
+) -> Result<(), Fail> {
+    let mut bytes = journal(rt.alloc(), false, &FRAMES).ok_or("a journal")?;
+    *bytes.get_mut(at).ok_or("a byte")? = byte;
+    assert_refused(rt, HistoryFormat::Csv, &bytes, want)
 }
 
 #[test]
@@ -146,16 +200,9 @@ fn the_first_cause_is_told_and_nothing_is_written(rt: HostRuntime) -> Result<(),
         (65, 9, JournalFault::Damaged(0)),
     ];
     for (at, byte, want) in rows {
-        let mut bytes = journal(alloc, false, &FRAMES).ok_or("a journal")?;
-        *bytes.get_mut(at).ok_or("a byte")? = byte;
-        let (text, ended) = told(alloc, ALL, HistoryFormat::Csv, &bytes)?;
-        assert_eq!(rt; ended, Err(HistoryFault::Journal(want)));
-        assert_eq!(rt; text.as_str(), "");
+        assert_refused_with(&rt, at, byte, want)?;
     }
     let [first, second, third, _] = FRAMES;
     let twice = journal(alloc, false, &[first, second, third, second]).ok_or("a journal")?;
-    let (text, ended) = told(alloc, ALL, HistoryFormat::Frames, &twice)?;
-    assert_eq!(rt; ended, Err(HistoryFault::Journal(JournalFault::Damaged(3))));
-    assert_eq!(rt; text.as_str(), "");
-    Ok(())
+    assert_refused(&rt, HistoryFormat::Frames, &twice, JournalFault::Damaged(3))
 }

@@ -17,7 +17,9 @@ use fare_table::{EXAMPLE_TABLE, Fares};
 use line_replay::{RunFault, replay_text};
 use rows::{ASKED_AGAIN, FIRST_PATH, MISSING_TOUCHES, REFUSALS};
 use std::alloc::{AllocError, Global};
+use std::fmt::Debug;
 use std::io::{Read, Write};
+use std::process::Abort;
 use std::test::Fail;
 
 /// A line that is asked, and the line that answers it.
@@ -62,6 +64,43 @@ fn replayed(alloc: Global, bytes: &[u8]) -> Result<(Vec<u8>, Result<(), RunFault
     Ok((written, ended))
 }
 
+/// These are equal, in the case that is named.
+fn assert_same_at<T: PartialEq + Debug + Copy, C: Debug + Copy>(
+    rt: &impl Abort,
+    found: T,
+    want: T,
+    at: C,
+) {
+    assert_eq!(rt; found, want, "{at:?}");
+}
+
+/// A run on some bytes ends so and writes this, in the case that is named.
+fn assert_replayed<R: Abort + AllocGlobal, C: Debug + Copy>(
+    rt: &R,
+    bytes: &[u8],
+    end: Result<(), RunFault>,
+    want: &[u8],
+    at: C,
+) -> Result<(), Fail> {
+    let (written, ended) = replayed(rt.alloc(), bytes)?;
+    assert_same_at(rt, ended, end, at);
+    assert_same_at(rt, written.as_slice(), want, at);
+    Ok(())
+}
+
+/// The lines of some rows are answered by theirs.
+fn assert_answered<R: Abort + AllocGlobal>(rt: &R, rows: &[Row]) -> Result<(), Fail> {
+    let asked = lines_of(rt.alloc(), rows, false)?;
+    let answered = lines_of(rt.alloc(), rows, true)?;
+    assert_replayed(
+        rt,
+        asked.as_slice(),
+        Ok(()),
+        answered.as_slice(),
+        rows.len(),
+    )
+}
+
 #[test]
 fn worked_lines_get_their_answers(rt: HostRuntime) -> Result<(), Fail> {
     let alloc = rt.alloc();
@@ -75,14 +114,7 @@ fn worked_lines_get_their_answers(rt: HostRuntime) -> Result<(), Fail> {
         &REFUSALS,
     ];
     for rows in tables {
-        let (written, ended) = replayed(alloc, lines_of(alloc, rows, false)?.as_slice())?;
-        let count = rows.len();
-        assert_eq!(rt; ended, Ok(()), "{count} rows");
-        assert_eq!(rt;
-            written.as_slice(),
-            lines_of(alloc, rows, true)?.as_slice(),
-            "{count} rows"
-        );
+        assert_answered(&rt, rows)?;
     }
     Ok(())
 }
@@ -91,12 +123,14 @@ fn worked_lines_get_their_answers(rt: HostRuntime) -> Result<(), Fail> {
 fn digits_of_either_case_and_a_last_line_without_a_line_feed_are_read(
     rt: HostRuntime,
 ) -> Result<(), Fail> {
-    let alloc = rt.alloc();
-    let (written, ended) = replayed(alloc, b"0005050000000a\n0005050000000B")?;
-    assert_eq!(rt; ended, Ok(()));
     let vacant = b"000e8500000000000000000000000000\n000e8500000000000000000000000000\n";
-    assert_eq!(rt; written.as_slice(), vacant.as_slice());
-    Ok(())
+    assert_replayed(
+        &rt,
+        b"0005050000000a\n0005050000000B",
+        Ok(()),
+        vacant,
+        "vacant",
+    )
 }
 
 #[test]
@@ -118,10 +152,10 @@ fn a_bad_line_is_answered_by_its_fault_and_ends_the_run(rt: HostRuntime) -> Resu
     ];
     for (bytes, number, size) in bad {
         let (written, ended) = replayed(alloc, bytes)?;
-        assert_eq!(rt; ended, Err(RunFault::BadLine(number)));
+        assert_same_at(&rt, ended, Err(RunFault::BadLine(number)), number);
         let fault = b"0008ff01000000000000\n";
-        assert!(rt; written.ends_with(fault), "line {number}");
-        assert_eq!(rt; written.len(), size, "line {number}");
+        assert_same_at(&rt, written.ends_with(fault), true, number);
+        assert_same_at(&rt, written.len(), size, number);
     }
     Ok(())
 }
@@ -138,7 +172,7 @@ fn a_line_is_too_long_at_its_129th_byte_and_not_before(rt: HostRuntime) -> Resul
         };
         let mut written = Vec::new(alloc);
         let ended = run(alloc, &mut reader, &mut written, 1_000)?;
-        assert_eq!(rt; ended, Err(fault), "{size} bytes");
+        assert_same_at(&rt, ended, Err(fault), size);
     }
     Ok(())
 }
@@ -147,6 +181,7 @@ fn a_line_is_too_long_at_its_129th_byte_and_not_before(rt: HostRuntime) -> Resul
 fn bytes_one_by_one_make_the_same_answers(rt: HostRuntime) -> Result<(), Fail> {
     let alloc = rt.alloc();
     let asked = lines_of(alloc, &FIRST_PATH, false)?;
+    let answered = lines_of(alloc, &FIRST_PATH, true)?;
     let mut reader = Pieces {
         rest: asked.as_slice(),
         size: 1,
@@ -159,11 +194,23 @@ fn bytes_one_by_one_make_the_same_answers(rt: HostRuntime) -> Result<(), Fail> {
         fails: false,
     };
     let ended = run(alloc, &mut reader, &mut writer, 1_000)?;
-    assert_eq!(rt; ended, Ok(()));
-    assert_eq!(rt;
-        writer.taken.as_slice(),
-        lines_of(alloc, &FIRST_PATH, true)?.as_slice()
-    );
+    assert_same_at(&rt, ended, Ok(()), "end");
+    assert_same_at(&rt, writer.taken.as_slice(), answered.as_slice(), "answers");
+    Ok(())
+}
+
+/// A run of so many turns on a reader ends so and writes this.
+fn assert_read<R: Abort + AllocGlobal>(
+    rt: &R,
+    mut reader: Pieces<'_>,
+    turns: u32,
+    end: Result<(), RunFault>,
+    want: &[u8],
+) -> Result<(), Fail> {
+    let mut written = Vec::new(rt.alloc());
+    let ended = run(rt.alloc(), &mut reader, &mut written, turns)?;
+    assert_same_at(rt, ended, end, turns);
+    assert_same_at(rt, written.as_slice(), want, turns);
     Ok(())
 }
 
@@ -177,16 +224,40 @@ fn answers_stand_where_a_read_fails_or_is_one_too_many(rt: HostRuntime) -> Resul
         (false, 1, Err(RunFault::Read)),
         (false, 2, Ok(())),
     ] {
-        let mut reader = Pieces {
+        let reader = Pieces {
             rest: asked.as_slice(),
             size: 1_000,
             fails,
         };
-        let mut written = Vec::new(alloc);
-        let given = run(alloc, &mut reader, &mut written, turns)?;
-        assert_eq!(rt; given, ended, "{turns} turns");
-        assert_eq!(rt; written.as_slice(), answered.as_slice(), "{turns} turns");
+        assert_read(&rt, reader, turns, ended, answered.as_slice())?;
     }
+    Ok(())
+}
+
+/// A writer that fails or takes nothing takes so many bytes of the answers before that.
+fn assert_begun<R: Abort + AllocGlobal>(
+    rt: &R,
+    asked: &[u8],
+    answered: &[u8],
+    left: usize,
+    fails: bool,
+) -> Result<(), Fail> {
+    let mut reader = asked;
+    let mut writer = Taker {
+        taken: Vec::new(rt.alloc()),
+        size: 7,
+        left,
+        fails,
+    };
+    let ended = run(rt.alloc(), &mut reader, &mut writer, 1_000)?;
+    assert_same_at(rt, ended, Err(RunFault::Write), left);
+    assert_same_at(rt, writer.taken.len(), left, left);
+    assert_same_at(
+        rt,
+        answered.starts_with(writer.taken.as_slice()),
+        true,
+        left,
+    );
     Ok(())
 }
 
@@ -196,20 +267,7 @@ fn a_beginning_stands_where_a_write_fails_or_takes_nothing(rt: HostRuntime) -> R
     let asked = lines_of(alloc, &FIRST_PATH, false)?;
     let answered = lines_of(alloc, &FIRST_PATH, true)?;
     for (left, fails) in [(0, true), (45, true), (100, false), (179, true)] {
-        let mut reader = asked.as_slice();
-        let mut writer = Taker {
-            taken: Vec::new(alloc),
-            size: 7,
-            left,
-            fails,
-        };
-        let ended = run(alloc, &mut reader, &mut writer, 1_000)?;
-        assert_eq!(rt; ended, Err(RunFault::Write), "{left} bytes");
-        assert_eq!(rt; writer.taken.len(), left);
-        assert!(rt;
-            answered.starts_with(writer.taken.as_slice()),
-            "{left} bytes"
-        );
+        assert_begun(&rt, asked.as_slice(), answered.as_slice(), left, fails)?;
     }
     Ok(())
 }

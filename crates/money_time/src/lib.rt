@@ -12,6 +12,3 @@ pub use date::day_of;
 pub use fault::TimeFault;
 pub use stamp::{Stamp, Window};
 pub use zone::Zone;
-
-#[cfg(test)]
-mod tests;

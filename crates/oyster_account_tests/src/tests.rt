@@ -1,7 +1,7 @@
 //! What no clause says: worked examples of the account and of the touch's bytes, with the values of
 //! docs/FARES.md and docs/PROTOCOL.md, and the comparison with a plain account.
 
-ghost use Rattle.std.specs.Prelude.{◌≡◌, ◌<◌, ◌+◌, List, length, OnOk};
+ghost use Rattle.std.specs.Prelude.{◌≡◌, ◌<◌, ◌+◌, List, length, IsTrue, OnOk};
 ghost use Rattle.oyster_account.specs.declared.reply.Judged.{Judged};
 ghost use Rattle.oyster_account.specs.Scheme.{scheme_of};
 ghost use Rattle.oyster_account.specs.Standing.{StandsFor, touches_in};
@@ -19,6 +19,7 @@ use fare_schedule::Schedule;
 use fare_table::Fares;
 use oyster_account::{Acceptance, Act, Card, CardState, Judged, Refusal, Reply, Touch};
 use std::alloc::{AllocError, Global};
+use std::fmt::Debug;
 use std::process::Abort;
 use std::test::Fail;
 
@@ -46,6 +47,28 @@ const WITH_2000: [Step; 2] = [
     (ISSUE, 8, 0, 0, OUTSIDE),
     (TOP_UP_2000, 7, 2000, 2000, OUTSIDE),
 ];
+
+/// These are equal.
+fn assert_same<T: PartialEq + Debug + Copy>(rt: &impl Abort, found: T, want: T) {
+    assert_eq!(rt; found, want);
+}
+
+/// These are equal, in this case.
+fn assert_same_at<T: PartialEq + Debug + Copy, C: Debug + Copy>(
+    rt: &impl Abort,
+    found: T,
+    want: T,
+    at: C,
+) {
+    assert_eq!(rt; found, want, "{at:?}");
+}
+
+/// This holds.
+fn assert_that(rt: &impl Abort, holds: bool)
+    ensures { IsTrue holds }
+{
+    assert!(rt; holds);
+}
 
 const fn enter(station: u16, moment: u32) -> Act {
     Act::Enter { station, moment }
@@ -103,23 +126,19 @@ fn give(
     }
     let stamp = schedule.stamp(touch.moment())?;
     card.ready()?;
-    assert!(rt; card.has_room());
+    assert_that(rt, card.has_room());
     let (foretold, seen) = card.judge(schedule, &touch, &stamp);
     let reply = card.apply(schedule, &touch, &stamp);
-    assert_eq!(rt; foretold, reply, "at {act:?}");
-    assert_eq!(rt; card.view(), seen, "at {act:?}");
+    assert_same_at(rt, foretold, reply, act);
+    assert_same_at(rt, card.view(), seen, act);
     let answer = Answer {
         verdict: reply.verdict,
         change: i64::from(reply.change),
         balance: reply.balance,
         state: seen.state,
     };
-    assert_eq!(rt; seen.balance, answer.balance, "at {act:?}");
-    assert_eq!(rt;
-        plain.give(schedule, act, stamp)?,
-        answer,
-        "at {stamp:?} {act:?}"
-    );
+    assert_same_at(rt, seen.balance, answer.balance, act);
+    assert_same_at(rt, plain.give(schedule, act, stamp)?, answer, (stamp, act));
     Ok(answer)
 }
 
@@ -147,7 +166,7 @@ fn go_on(
             balance,
             state,
         };
-        assert_eq!(rt; answer, expected, "at {act:?}");
+        assert_same_at(rt, answer, expected, act);
     }
     Ok(())
 }
@@ -167,7 +186,7 @@ fn play_row(
     let mut plain = Plain::new(alloc);
     go_on(rt, schedule, &mut card, &mut plain, first)?;
     go_on(rt, schedule, &mut card, &mut plain, row)?;
-    assert_eq!(rt; card.count() as usize, first.len() + row.len());
+    assert_same(rt, card.count() as usize, first.len() + row.len());
     Ok(())
 }
 
@@ -191,10 +210,10 @@ fn play_on(
     first: &[Step],
     rows: &[&[Step]],
 ) -> Result<(), Fail> {
-    assert!(rt; first.len() < 10);
+    assert_that(rt, first.len() < 10);
     for row in rows {
         let row: &[Step] = row;
-        assert!(rt; row.len() < 80);
+        assert_that(rt, row.len() < 80);
         play_row(rt, alloc, schedule, first, row)?;
     }
     Ok(())
@@ -217,18 +236,29 @@ fn wander(
     Ok(())
 }
 
+/// Gives acts of a generator to a hundred cards, one after the other.
+fn wander_on(
+    rt: &impl Abort,
+    alloc: Global,
+    schedule: &Schedule,
+    wanderer: &mut Wanderer,
+) -> Result<(), Fail> {
+    for _ in 0..100 {
+        wander(rt, alloc, schedule, wanderer)?;
+        wanderer.turn_to_another_card();
+    }
+    Ok(())
+}
+
 #[test]
 fn a_card_answers_as_a_plain_account_does(rt: HostRuntime) -> Result<(), Fail> {
     let alloc = rt.alloc();
     let schedule = Schedule::new(alloc, Fares::read(alloc, WIDE_TABLE)?)?;
     let mut wanderer = Wanderer::new();
-    for _ in 0..100 {
-        wander(&rt, alloc, &schedule, &mut wanderer)?;
-        wanderer.turn_to_another_card();
-    }
+    wander_on(&rt, alloc, &schedule, &mut wanderer)?;
     // Every verdict was given but that of a table with no such card.
     for verdict in [1, 2, 3, 4, 5, 6, 7, 8, 20, 21, 22, 23, 24, 25, 26] {
-        assert!(rt; wanderer.has_noted(verdict), "verdict {verdict}");
+        assert_same_at(&rt, wanderer.has_noted(verdict), true, verdict);
     }
     Ok(())
 }
@@ -260,15 +290,13 @@ fn a_reply_has_the_code_of_its_verdict(rt: HostRuntime) {
     ];
     for (acceptance, verdict) in accepted.into_iter().zip(1..=9) {
         let reply = Reply::granted(acceptance, 1000, 100);
-        assert_eq!(rt;
-            reply,
-            Reply {
-                verdict,
-                change: -900,
-                balance: 100
-            }
-        );
-        assert!(rt; reply.is_accepted());
+        let want = Reply {
+            verdict,
+            change: -900,
+            balance: 100,
+        };
+        assert_same(&rt, reply, want);
+        assert_that(&rt, reply.is_accepted());
     }
     let refused = [
         Refusal::UnknownCard,
@@ -282,24 +310,39 @@ fn a_reply_has_the_code_of_its_verdict(rt: HostRuntime) {
     ];
     for (refusal, verdict) in refused.into_iter().zip(20..=27) {
         let reply = Reply::refused(refusal, -710);
-        assert_eq!(rt;
-            reply,
-            Reply {
-                verdict,
-                change: 0,
-                balance: -710
-            }
-        );
-        assert!(rt; !reply.is_accepted());
-    }
-    assert_eq!(rt;
-        Reply::unknown_card(),
-        Reply {
-            verdict: 20,
+        let want = Reply {
+            verdict,
             change: 0,
-            balance: 0
-        }
-    );
+            balance: -710,
+        };
+        assert_same(&rt, reply, want);
+        assert_that(&rt, !reply.is_accepted());
+    }
+    let want = Reply {
+        verdict: 20,
+        change: 0,
+        balance: 0,
+    };
+    assert_same(&rt, Reply::unknown_card(), want);
+}
+
+/// The touch has these bytes, and is read from them and with others behind them.
+fn assert_bytes(rt: &impl Abort, touch: Touch, bytes: &[u8]) {
+    let mut out = [0xee; 51];
+    let length = touch.write_into(&mut out);
+    assert_same(rt, length, bytes.len());
+    assert_that(rt, length <= 51);
+    assert_same(rt, &out[..length], bytes);
+    assert_that(rt, out[length..].iter().all(|byte| *byte == 0xee));
+    assert_same(rt, Touch::read(bytes), Some((touch, length)));
+    assert_same(rt, Touch::read(&out), Some((touch, length)));
+}
+
+/// No touch is read from fewer than all of these bytes.
+fn assert_whole(rt: &impl Abort, bytes: &[u8]) {
+    for front in 0..bytes.len() {
+        assert_same_at(rt, Touch::read(&bytes[..front]), None, front);
+    }
 }
 
 #[test]
@@ -359,25 +402,12 @@ fn a_touch_has_its_bytes_and_is_read_from_them(rt: HostRuntime) {
         ),
     ];
     for (touch, moment, bytes) in rows {
-        assert_eq!(rt; touch.moment(), moment);
-        assert_eq!(rt; touch.is_revision(), bytes.len() == 51);
-        let mut out = [0xee; 51];
-        let length = touch.write_into(&mut out);
-        assert_eq!(rt; length, bytes.len());
-        assert!(rt; length <= 51);
-        assert_eq!(rt; &out[..length], bytes);
-        assert!(rt; out[length..].iter().all(|byte| *byte == 0xee));
-        assert_eq!(rt; Touch::read(bytes), Some((touch, length)));
-        assert_eq!(rt; Touch::read(&out), Some((touch, length)));
-        for front in 0..length {
-            assert_eq!(rt;
-                Touch::read(&bytes[..front]),
-                None,
-                "the first {front} bytes"
-            );
-        }
+        assert_same(&rt, touch.moment(), moment);
+        assert_same(&rt, touch.is_revision(), bytes.len() == 51);
+        assert_bytes(&rt, touch, bytes);
+        assert_whole(&rt, bytes);
     }
-    assert_eq!(rt; Touch::read(&[0; 51]), None);
-    assert_eq!(rt; Touch::read(&[5; 51]), None);
-    assert_eq!(rt; Touch::read(&[7; 51]), None);
+    assert_same(&rt, Touch::read(&[0; 51]), None);
+    assert_same(&rt, Touch::read(&[5; 51]), None);
+    assert_same(&rt, Touch::read(&[7; 51]), None);
 }

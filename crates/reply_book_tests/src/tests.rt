@@ -3,7 +3,7 @@
 //! Each test lets go of its book by a call of `drop`: a function in which a book goes out of scope
 //! takes several times as long to prove.
 
-ghost use Rattle.std.specs.Prelude.{◌≡◌, ◌<◌, ◌≤◌, ◌+◌, length, [], true};
+ghost use Rattle.std.specs.Prelude.{◌≡◌, ◌<◌, ◌≤◌, ◌+◌, length, [], true, IsTrue};
 ghost use Rattle.fare_schedule.specs.Schedule.{revisions_of};
 ghost use Rattle.oyster_account.specs.Touch.{moment_of};
 ghost use Rattle.reply_book.specs.declared.entry.Found.TheVariants.{New};
@@ -20,7 +20,30 @@ use money_time::Stamp;
 use oyster_account::{Act, CardState, CardView, Reply, Touch};
 use reply_book::{Book, Entry, Found, ReplayFault};
 use std::alloc::{AllocError, Global};
+use std::fmt::Debug;
 use std::process::Abort;
+
+/// These are equal.
+fn assert_same<T: PartialEq + Debug + Copy>(rt: &impl Abort, found: T, want: T) {
+    assert_eq!(rt; found, want);
+}
+
+/// These are equal, in this case.
+fn assert_same_at<T: PartialEq + Debug + Copy, C: Debug + Copy>(
+    rt: &impl Abort,
+    found: T,
+    want: T,
+    at: C,
+) {
+    assert_eq!(rt; found, want, "{at:?}");
+}
+
+/// This holds.
+fn assert_that(rt: &impl Abort, holds: bool)
+    ensures { IsTrue holds }
+{
+    assert!(rt; holds);
+}
 
 /// A touch of gate 7 and card 1.
 const fn touch(number: u32, act: Act) -> Touch {
@@ -127,7 +150,7 @@ fn make_ready(rt: &impl Abort, book: &mut Book, touch: &Touch) -> Stamp
     if let Ok(stamp) = book.ready(touch) {
         return stamp;
     }
-    assert_eq!(rt; seen_of(book, touch.card), seen);
+    assert_same(rt, seen_of(book, touch.card), seen);
     book.ready(touch)
         .expect(rt, "the second call meets no refusal")
 }
@@ -150,9 +173,9 @@ fn assert_added(rt: &impl Abort, book: &Book, place: u32, row: Row) {
         reply,
         seat: 3,
     };
-    assert_eq!(rt; book.entry(place).copied(), Some(entry));
-    assert_eq!(rt; book.find(&touch), Found::First(place, reply));
-    assert_eq!(rt; book.view(touch.card), view, "{touch:?}");
+    assert_same(rt, book.entry(place).copied(), Some(entry));
+    assert_same(rt, book.find(&touch), Found::First(place, reply));
+    assert_same_at(rt, book.view(touch.card), view, touch);
 }
 
 /// Adds a touch from seat 3, and compares what is foretold, answered, found and seen.
@@ -166,11 +189,11 @@ fn add_one(rt: &impl Abort, book: &mut Book, row: Row)
     let place = book.len();
     assert_new(rt, book, &touch);
     let stamp = make_ready(rt, book, &touch);
-    assert!(rt; book.has_room(&touch));
+    assert_that(rt, book.has_room(&touch));
     let foretold = book.judge(&touch, &stamp);
-    assert_eq!(rt; foretold, (reply, view), "{touch:?}");
+    assert_same_at(rt, foretold, (reply, view), touch);
     let added = book.add(touch, &stamp, 3);
-    assert_eq!(rt; added, (place, reply), "{touch:?}");
+    assert_same_at(rt, added, (place, reply), touch);
     assert_added(rt, book, place, row);
 }
 
@@ -242,21 +265,21 @@ fn add_first(rt: &impl Abort, book: &mut Book)
 
 /// That there are so many entries, and none behind them.
 fn assert_count(rt: &impl Abort, book: &Book, count: u32) {
-    assert_eq!(rt; book.len(), count);
-    assert!(rt; book.entry(count).is_none());
+    assert_same(rt, book.len(), count);
+    assert_that(rt, book.entry(count).is_none());
 }
 
 /// That each of these touches is found so.
 fn assert_finds(rt: &impl Abort, book: &Book, rows: &[(Touch, Found)]) {
     for (touch, found) in rows {
-        assert_eq!(rt; book.find(touch), *found, "{touch:?}");
+        assert_same_at(rt, book.find(touch), *found, *touch);
     }
 }
 
 /// That each of these cards is seen so.
 fn assert_seen(rt: &impl Abort, book: &Book, rows: &[(u32, CardView)]) {
     for (card, seen) in rows {
-        assert_eq!(rt; book.view(*card), *seen, "card {card}");
+        assert_same_at(rt, book.view(*card), *seen, *card);
     }
 }
 
@@ -269,7 +292,7 @@ fn assert_entries(rt: &impl Abort, book: &Book, rows: &[Row; 4]) {
             seat: 0,
         };
         let kept = book.entry(place as u32).copied();
-        assert_eq!(rt; kept, Some(entry), "place {place}");
+        assert_same_at(rt, kept, Some(entry), place);
     }
 }
 
@@ -277,20 +300,20 @@ fn assert_entries(rt: &impl Abort, book: &Book, rows: &[Row; 4]) {
 fn assert_told(rt: &impl Abort, alloc: Global, rows: &[([Touch; 5], ReplayFault)]) {
     for (touches, fault) in rows {
         let told = replayed(rt, alloc, touches).err();
-        assert_eq!(rt; told, Some(*fault));
+        assert_same(rt, told, Some(*fault));
     }
 }
 
 /// That there is no room for a touch before it is made, and then there is, for no entry.
 fn assert_reserves(rt: &impl Abort, book: &mut Book) {
-    assert!(rt; !book.has_room(&leave(4, 1)));
+    assert_that(rt, !book.has_room(&leave(4, 1)));
     if let Err(AllocError) = book.reserve(1000) {
-        assert!(rt; !book.has_room(&leave(4, 1)));
+        assert_that(rt, !book.has_room(&leave(4, 1)));
         book.reserve(1000)
             .expect(rt, "the second call meets no refusal");
     }
-    assert!(rt; book.has_room(&leave(4, 1)));
-    assert_eq!(rt; book.len(), 0);
+    assert_that(rt, book.has_room(&leave(4, 1)));
+    assert_same(rt, book.len(), 0);
 }
 
 #[test]

@@ -7,6 +7,3 @@
 mod check;
 
 pub use check::{check_table, read_table};
-
-#[cfg(test)]
-mod tests;

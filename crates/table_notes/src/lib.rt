@@ -16,6 +16,3 @@ pub use above::Above;
 pub use misread::Misread;
 pub use survey::{Survey, SurveyFault, look_over};
 pub use unknown::Unknown;
-
-#[cfg(test)]
-mod tests;

@@ -9,12 +9,23 @@ use fare_table::{EXAMPLE_TABLE, Fares};
 use oyster_account::{Act, CardState, CardView, Touch};
 use reply_book::{Book, Found};
 use std::alloc::{AllocError, Global};
+use std::fmt::Debug;
 use std::marker::{Brand, Model};
 use std::process::Abort;
 use std::sync::{Mutex, Wait};
 use std::test::*;
 use std::thread::{Threads, join};
 use tap_desk::{Desk, Enquiry, Note, Publisher, Story, StoryName};
+
+/// These are equal.
+fn assert_same<T: PartialEq + Debug + Copy>(rt: &impl Abort, found: T, want: T) {
+    assert_eq!(rt; found, want);
+}
+
+/// This holds: `so` is said where it doesn't.
+fn assert_that(rt: &impl Abort, holds: bool, so: &str) {
+    assert!(rt; holds, "{so}");
+}
 
 /// A book, and what is published of it, as a lock keeps them.
 #[derive(Drop)]
@@ -189,7 +200,8 @@ fn alone<N: StoryName, R: Wait + Abort>(
 {
     let mut station: Station<N> = open_station(rt, alloc, book, story, 1)?;
     let mut desk = station.publisher.desk().expect(rt, "a desk");
-    assert!(rt; station.publisher.desk().is_none(), "there is one place");
+    let is_full = station.publisher.desk().is_none();
+    assert_that(rt, is_full, "there is one place");
     compare(rt, &mut desk, 1, view(CardState::Vacant, 0), 0);
     follow(rt, &mut station, &mut desk);
     let digest = example(alloc)?.digest();
@@ -241,7 +253,7 @@ fn follow_revisions<N: StoryName, R: Wait + Abort>(
     compare(rt, desk, 1, view(CardState::Outside, 100), 4);
     compare(rt, desk, 2, view(CardState::Outside, 0), 4);
     let other = station.commit(rt, revise(5, [0; 32]));
-    assert!(rt; other.is_none(), "no such table");
+    assert_that(rt, other.is_none(), "no such table");
     compare(rt, desk, 1, view(CardState::Outside, 100), 4);
 }
 
@@ -252,10 +264,10 @@ fn leave<N: StoryName, R: Wait + Abort>(rt: &R, station: Station<N>, desk: &mut 
         mut publisher,
     } = station;
     let staged = is_staged(&mut book, &mut publisher, &pound(5, 2));
-    assert!(rt; staged, "it stages");
+    assert_that(rt, staged, "it stages");
     compare(rt, desk, 2, view(CardState::Outside, 0), 4);
-    assert_eq!(rt; publisher.close(rt), 4);
-    assert!(rt; desk.enquire(1).is_none(), "the office is gone");
+    assert_same(rt, publisher.close(rt), 4);
+    assert_that(rt, desk.enquire(1).is_none(), "the office is gone");
 }
 
 #[test]
@@ -283,14 +295,14 @@ fn shared<N: StoryName + Send + Sync, R: Threads + Wait + Abort + Sync>(
     let one = station.publisher.desk().expect(rt, "a desk");
     let two = station.publisher.desk().expect(rt, "a second desk");
     let first = station.commit(rt, issue(1, 1));
-    assert!(rt; first.is_some(), "it commits");
+    assert_that(rt, first.is_some(), "it commits");
     let station = Mutex::new(station);
     let (a, b) = join(
         rt,
         || -> u32 { work(rt, &station, one, 1000) },
         || -> u32 { work(rt, &station, two, 5000) },
     );
-    assert_eq!(rt; (a, b), (0, 0));
+    assert_same(rt, (a, b), (0, 0));
     Ok(())
 }
 

@@ -16,11 +16,32 @@ use fare_table::{EXAMPLE_TABLE, Fares};
 use oyster_account::{Act, CardState, CardView, Reply, Touch};
 use reply_book::Book;
 use std::alloc::Global;
+use std::fmt::Debug;
 use std::process::Abort;
 use tap_desk::Enquiry;
 use tap_disk::{Choice, MemoryDisk};
 use tap_journal::{Journal, OpenFault};
 use tap_office::{CloseCause, CloseFault, Closed, Opening, SubmitFault};
+
+/// These are equal.
+fn assert_same<T: PartialEq + Debug + Copy>(rt: &impl Abort, found: T, want: T) {
+    assert_eq!(rt; found, want);
+}
+
+/// These are equal, in this case.
+fn assert_same_at<T: PartialEq + Debug + Copy, C: Debug + Copy>(
+    rt: &impl Abort,
+    found: T,
+    want: T,
+    at: C,
+) {
+    assert_eq!(rt; found, want, "{at:?}");
+}
+
+/// This holds.
+fn assert_that(rt: &impl Abort, holds: bool) {
+    assert!(rt; holds);
+}
 
 /// How many cards each office of these tests has.
 const CARDS: u32 = 10;

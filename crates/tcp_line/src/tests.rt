@@ -168,10 +168,11 @@ fn assert_comes<R: Abort>(rt: &R, steps: &[Step], attempts: usize, waited: u64, 
     let ended = AtomicBool::new(false);
     let idle = Some(Duration::from_secs(7));
     let mut line = TcpLine::new(&notes, &script, &flag, &ended, idle);
-    assert!(rt; line.next().is_some());
-    assert_eq!(rt; script.made.load(Ordering::Relaxed), attempts);
-    assert_eq!(rt; notes.waited.load(Ordering::Relaxed), waited);
-    assert_eq!(rt; notes.told.load(Ordering::Relaxed), told);
+    let comes = line.next().is_some();
+    let made = script.made.load(Ordering::Relaxed);
+    let noted = notes.waited.load(Ordering::Relaxed);
+    let lines = notes.told.load(Ordering::Relaxed);
+    assert_eq!(rt; (comes, made, noted, lines), (true, attempts, waited, told));
 }
 
 /// By these steps no connection is taken up any more, and none is asked for.
@@ -185,8 +186,8 @@ fn assert_ended<R: Abort>(rt: &R, steps: &[Step]) {
     let ended = AtomicBool::new(true);
     let idle = Some(Duration::from_secs(7));
     let mut line = TcpLine::new(&notes, &script, &flag, &ended, idle);
-    assert!(rt; line.next().is_none());
-    assert_eq!(rt; script.made.load(Ordering::Relaxed), 0);
+    let comes = line.next().is_some();
+    assert_eq!(rt; (comes, script.made.load(Ordering::Relaxed)), (false, 0));
 }
 
 #[test]

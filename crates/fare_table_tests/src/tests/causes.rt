@@ -1,12 +1,12 @@
 //! A fault of each cause that a text can have. scripts/bad-tables has the others.
-use super::{Change, changed};
+use super::{Change, assert_same, changed};
 use fare_table::{EXAMPLE_TABLE, Fares, Key, TableFault};
 use std::alloc::Global;
 use std::process::Abort;
 use std::test::Fail;
 
 /// A change of the example for each cause, and the fault that it makes.
-const CAUSES: [(Change, TableFault); 10] = [
+static CAUSES: [(Change, TableFault); 10] = [
     (
         ("evening_rule = true", "evening_rule ="),
         TableFault::NotToml,
@@ -39,7 +39,7 @@ fn assert_cause(
 ) -> Result<(), Fail> {
     let text = changed(alloc, EXAMPLE_TABLE, &[change])?;
     let found = Fares::read(alloc, text.as_str()).err();
-    assert_eq!(rt; found, Some(fault));
+    assert_same(rt, found, Some(fault));
     Ok(())
 }
 

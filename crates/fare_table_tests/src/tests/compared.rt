@@ -1,6 +1,6 @@
 //! What two tables are compared by, and stamps by the zone of one and the holidays of the other.
 use super::fares::Moment;
-use super::{Change, table_of};
+use super::{Change, assert_same, table_of};
 use fare_table::{EXAMPLE_TABLE, Fares};
 use money_time::{Stamp, Window};
 use std::alloc::Global;
@@ -17,7 +17,7 @@ const ZONES: [(&str, &str); 3] = [
 // The example with this text of its zone tells that text.
 fn assert_zone(rt: &impl Abort, alloc: Global, text: &str, told: &str) -> Result<(), Fail> {
     let fares = table_of(alloc, EXAMPLE_TABLE, &[("GMT0BST,M3.5.0/1,M10.5.0", text)])?;
-    assert_eq!(rt; fares.zone_text(), told);
+    assert_same(rt, fares.zone_text(), told);
     Ok(())
 }
 
@@ -57,8 +57,8 @@ fn assert_stations_of(rt: &impl Abort, alloc: Global, row: Row) -> Result<(), Fa
     let (change, is_had, has) = row;
     let example = table_of(alloc, EXAMPLE_TABLE, &[])?;
     let other = table_of(alloc, EXAMPLE_TABLE, &[change])?;
-    assert_eq!(rt; example.has_stations_of(&other), is_had);
-    assert_eq!(rt; other.has_stations_of(&example), has);
+    assert_same(rt, example.has_stations_of(&other), is_had);
+    assert_same(rt, other.has_stations_of(&example), has);
     Ok(())
 }
 
@@ -85,7 +85,7 @@ fn assert_stamp(rt: &impl Abort, one: &Fares, other: &Fares, expected: Moment) -
         minute,
         window,
     };
-    assert_eq!(rt; other.restamp(one.stamp(moment)?), stamp);
+    assert_same(rt, other.restamp(one.stamp(moment)?), stamp);
     Ok(())
 }
 

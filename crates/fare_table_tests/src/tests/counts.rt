@@ -1,6 +1,7 @@
 //! Lists with as many rows as they may have.
 use super::fares::{Moment, assert_stamps, assert_stations};
 use super::links::{Leg, Walk, assert_interchanges, assert_legs};
+use super::{assert_same, assert_that};
 use fare_table::{Cap, Fares, Zones};
 use money_time::Window;
 use std::alloc::{AllocError, Global};
@@ -65,16 +66,12 @@ fn table(alloc: Global, stations: &str, key: &str, rows: &str) -> Result<Fares, 
     Ok(Fares::read(alloc, text.as_str())?)
 }
 
-fn assert_no_more(rt: &impl Abort, fares: &Fares) {
-    assert_eq!(rt; fares.station_count(), 1_000);
-    assert!(rt; fares.station(1_001).is_none());
-}
-
 #[test]
 fn a_table_may_have_1000_stations(rt: HostRuntime) -> Result<(), Fail> {
     let list = stations(rt.alloc(), 1_000)?;
     let fares = table(rt.alloc(), list.as_str(), "cap", "")?;
-    assert_no_more(&rt, &fares);
+    assert_same(&rt, fares.station_count(), 1_000);
+    assert_that(&rt, fares.station(1_001).is_none());
     let last = [(1_000, "Number 1000", Zones::One(1))];
     assert_stations(&rt, &fares, &last, "1,000 stations")
 }
@@ -149,8 +146,8 @@ fn assert_caps(rt: &impl Abort, fares: &Fares) {
         off_peak: true,
         price: 1,
     };
-    assert_eq!(rt; fares.caps().len(), 32);
-    assert_eq!(rt; fares.caps().last().copied(), Some(last));
+    assert_same(rt, fares.caps().len(), 32);
+    assert_same(rt, fares.caps().last().copied(), Some(last));
 }
 
 #[test]

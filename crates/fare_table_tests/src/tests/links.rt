@@ -1,5 +1,6 @@
 //! What two stations have between them: the minutes of a leg, and those of an interchange.
-use super::{Change, table_of};
+use super::fares::leg_of;
+use super::{Change, assert_same_at, table_of};
 use fare_table::{EXAMPLE_TABLE, Fares};
 use money_time::Window;
 use std::process::Abort;
@@ -50,12 +51,10 @@ const WALKS: [Walk; 9] = [
 /// Legs of a table, in the early window.
 pub fn assert_legs(rt: &impl Abort, fares: &Fares, rows: &[Leg]) {
     for (from, to, minutes, pence, hi) in rows {
-        assert!(rt; fares.station(*from).is_some());
-        assert!(rt; fares.station(*to).is_some());
-        assert_eq!(rt; fares.leg_minutes(*from, *to), *minutes, "{from} to {to}");
-        let fare = fares.fare(*from, *to, Window::Early);
-        assert_eq!(rt; fare.pence, *pence, "{from} to {to}");
-        assert_eq!(rt; fare.hi, *hi, "{from} to {to}");
+        let (fare, leg) = leg_of(rt, fares, *from, *to, Window::Early);
+        assert_same_at(rt, leg, *minutes, (*from, *to));
+        assert_same_at(rt, fare.pence, *pence, (*from, *to));
+        assert_same_at(rt, fare.hi, *hi, (*from, *to));
     }
 }
 
@@ -70,7 +69,7 @@ fn a_pair_counts_in_both_directions(rt: HostRuntime) -> Result<(), Fail> {
 /// Interchanges of a table.
 pub fn assert_interchanges(rt: &impl Abort, fares: &Fares, rows: &[Walk]) {
     for (from, to, minutes) in rows {
-        assert_eq!(rt; fares.interchange(*from, *to), *minutes, "{from} to {to}");
+        assert_same_at(rt, fares.interchange(*from, *to), *minutes, (*from, *to));
     }
 }
 

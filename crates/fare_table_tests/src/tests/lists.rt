@@ -1,6 +1,6 @@
 //! A table without the lists that may be left out.
-use super::fares::{Moment, assert_stamps};
-use super::{Change, table_of};
+use super::fares::{Moment, assert_stamps, leg_of};
+use super::{Change, assert_same, table_of};
 use fare_table::{EXAMPLE_TABLE, Fare, Fares};
 use money_time::Window;
 use std::alloc::Global;
@@ -34,12 +34,11 @@ fn assert_no_rows(rt: &impl Abort, fares: &Fares) {
         hi: 2,
         off_peak: false,
     };
-    assert!(rt; fares.station(2).is_some());
-    assert!(rt; fares.station(4).is_some());
-    assert_eq!(rt; fares.fare(2, 4, Window::Early), single);
-    assert_eq!(rt; fares.leg_minutes(2, 4), 90);
-    assert_eq!(rt; fares.caps().len(), 0);
-    assert_eq!(rt; fares.interchange(1, 4), None);
+    let (fare, minutes) = leg_of(rt, fares, 2, 4, Window::Early);
+    assert_same(rt, fare, single);
+    assert_same(rt, minutes, 90);
+    assert_same(rt, fares.caps().len(), 0);
+    assert_same(rt, fares.interchange(1, 4), None);
 }
 
 // The example with these changes has none of the four lists.

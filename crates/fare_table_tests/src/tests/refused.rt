@@ -1,7 +1,7 @@
 //! Readings that are refused memory. `scripts/refuse-memory` refuses each allocation of these tests
 //! in turn: the call that met it is made again, and has to answer as with ample memory.
-use super::Change;
 use super::fares::assert_example;
+use super::{Change, assert_same};
 use fare_table::{EXAMPLE_TABLE, Fares, Key, TableFault};
 use std::alloc::Global;
 use std::process::Abort;
@@ -48,7 +48,7 @@ fn changed_example(alloc: Global, first: Change, others: &[Change]) -> Option<St
 
 fn assert_fault(rt: &impl Abort, alloc: Global, text: &str, fault: TableFault) {
     let found = read_again(alloc, text).err();
-    assert_eq!(rt; found, Some(fault));
+    assert_same(rt, found, Some(fault));
 }
 
 #[test]

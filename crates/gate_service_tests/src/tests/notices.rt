@@ -1,5 +1,6 @@
 //! What is told while a server runs, and that each kind is told once.
 
+use super::assert_same;
 use gate_service::{Lines, Notice, Notices, Watch};
 use std::fmt::Display;
 use std::io;
@@ -80,8 +81,15 @@ fn new_ends() -> Ends {
 
 /// So many lines were told, and the lines were ended so often.
 fn assert_told<R: Abort>(rt: &R, teller: &Teller, ends: &Ends, told: u64, ended: u64) {
-    assert_eq!(rt; teller.told.load(Ordering::Relaxed), told);
-    assert_eq!(rt; ends.ended.load(Ordering::Relaxed), ended);
+    assert_same(rt, teller.told.load(Ordering::Relaxed), told);
+    assert_same(rt, ends.ended.load(Ordering::Relaxed), ended);
+}
+
+/// A halt is told where no lines are ended by it: so many were told then.
+fn assert_told_without_lines<R: Abort>(rt: &R, teller: &Teller, told: u64) {
+    let stays: Notices<'_, Teller, Ends> = Notices::new(teller, None, 0, 10, 9);
+    stays.refused(SubmitFault::Halted);
+    assert_same(rt, teller.told.load(Ordering::Relaxed), told);
 }
 
 #[test]
@@ -104,10 +112,8 @@ fn each_kind_of_notice_is_told_once(rt: HostRuntime) {
     watch.refused(SubmitFault::Halted);
     assert_told(&rt, &teller, &ends, 3, 1);
     watch.refused(SubmitFault::Halted);
-    assert_eq!(rt; teller.told.load(Ordering::Relaxed), 3);
-    let stays: Notices<'_, Teller, Ends> = Notices::new(&teller, None, 0, 10, 9);
-    stays.refused(SubmitFault::Halted);
-    assert_eq!(rt; teller.told.load(Ordering::Relaxed), 4);
+    assert_same(&rt, teller.told.load(Ordering::Relaxed), 3);
+    assert_told_without_lines(&rt, &teller, 4);
 }
 
 #[test]
@@ -141,7 +147,7 @@ fn a_notice_is_told_with_its_entries(rt: HostRuntime) -> Result<(), Fail> {
         (Notice::NearlyFull(9), "nearly full 9"),
         (Notice::Lines(3, 8), "lines 3 of 8"),
     ] {
-        assert_eq!(rt; notice.to_string(rt.alloc())?.as_str(), line);
+        assert_same(&rt, notice.to_string(rt.alloc())?.as_str(), line);
     }
     Ok(())
 }

@@ -1,8 +1,10 @@
 //! The lines that `serve` writes, worked out by hand.
 
 use super::fakes::Taker;
+use super::{assert_same, assert_same_at};
 use gate_service::{Tally, write_opened, write_report};
 use std::alloc::Global;
+use std::process::Abort;
 use std::test::Fail;
 
 /// What came of two lines.
@@ -25,18 +27,30 @@ const TALLIES: [Tally; 2] = [
 const REPORT: &str = "line 1 connections 2 requests 3 answers 4\n\
     line 2 connections 1000000 requests 18446744073709551615 answers 0\nclosed 7\n";
 
+/// The report on these lines is this, where the office is halted or not, and the history has so
+/// many entries.
+fn assert_report(
+    rt: &impl Abort,
+    alloc: Global,
+    tallies: &[Tally],
+    halted: bool,
+    entries: u32,
+    text: &str,
+) -> Result<(), Fail> {
+    let mut written = Vec::new(alloc);
+    write_report(&mut written, tallies, halted, entries)?;
+    assert_same(rt, written.as_slice(), text.as_bytes());
+    Ok(())
+}
+
 #[test]
 fn a_report_tells_the_opening_each_line_and_the_end(rt: HostRuntime) -> Result<(), Fail> {
-    let mut written = Vec::new(rt.alloc());
+    let alloc = rt.alloc();
+    let mut written = Vec::new(alloc);
     write_opened(&mut written, 0)?;
-    assert_eq!(rt; written.as_slice(), "opened 0\n".as_bytes());
-    let mut written = Vec::new(rt.alloc());
-    write_report(&mut written, &TALLIES, false, 7)?;
-    assert_eq!(rt; written.as_slice(), REPORT.as_bytes());
-    let mut written = Vec::new(rt.alloc());
-    write_report(&mut written, &[], true, 1_000_000)?;
-    assert_eq!(rt; written.as_slice(), "halted 1000000\n".as_bytes());
-    Ok(())
+    assert_same(&rt, written.as_slice(), "opened 0\n".as_bytes());
+    assert_report(&rt, alloc, &TALLIES, false, 7, REPORT)?;
+    assert_report(&rt, alloc, &[], true, 1_000_000, "halted 1000000\n")
 }
 
 /// What a writer took that takes so many bytes at most, and whether the report was told.
@@ -55,11 +69,9 @@ fn told(alloc: Global, left: usize, fails: bool) -> (Vec<u8>, bool) {
 fn a_beginning_of_a_report_is_told_where_a_write_fails(rt: HostRuntime) {
     for (left, fails) in [(0, true), (40, false), (117, true), (118, false)] {
         let (taken, is_told) = told(rt.alloc(), left, fails);
-        assert_eq!(rt; is_told, left == REPORT.len(), "{left} bytes");
-        assert_eq!(rt; taken.len(), left);
-        assert!(rt;
-            REPORT.as_bytes().starts_with(taken.as_slice()),
-            "{left} bytes"
-        );
+        assert_same_at(&rt, is_told, left == REPORT.len(), (left, "bytes"));
+        assert_same(&rt, taken.len(), left);
+        let begins = REPORT.as_bytes().starts_with(taken.as_slice());
+        assert_same_at(&rt, begins, true, (left, "bytes"));
     }
 }

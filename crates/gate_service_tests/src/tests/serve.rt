@@ -43,6 +43,20 @@ fn posts_of<'a, N: Named, R: AllocGlobal>(
     Ok(posts)
 }
 
+/// Closes an office against its posts' seats, and tells how many entries the history has.
+fn close_posts<L: Drop, N: Named, R: AllocGlobal + Wait>(
+    rt: &R,
+    office: Office<N, MemoryDisk>,
+    posts: Vec<Post<L, N>>,
+) -> Result<u32, Fail> {
+    let seats = Vec::with_capacity(rt.alloc(), posts.len())?;
+    let closed = office
+        .close(rt, seats_of(posts, seats))
+        .ok()
+        .ok_or("the office wasn't closed")?;
+    Ok(closed.book.len())
+}
+
 /// Serves an office's posts, closes it, and tells each line's tally and how many entries the
 /// history has.
 fn serve_posts<
@@ -54,8 +68,6 @@ fn serve_posts<
 {
     let alloc = rt.alloc();
     let mut posts = posts;
-    let seats = Vec::with_capacity(alloc, posts.len())?;
-    let tallies = Vec::with_capacity(alloc, posts.len())?;
     serve_all(
         rt,
         alloc,
@@ -65,12 +77,10 @@ fn serve_posts<
         10,
         1_000_000,
     );
+    let tallies = Vec::with_capacity(alloc, posts.len())?;
     let tallies = tallies_of(posts.as_slice(), tallies);
-    let closed = office
-        .close(rt, seats_of(posts, seats))
-        .ok()
-        .ok_or("the office wasn't closed")?;
-    Ok((tallies, closed.book.len()))
+    let entries = close_posts(rt, office, posts)?;
+    Ok((tallies, entries))
 }
 
 /// Serves these connections from the office of an opening.
@@ -103,7 +113,7 @@ fn served<R: AllocGlobal + Clock + Threads + Wait + Sync + Abort>(
     };
     let opening = new_opening(rt.alloc(), capacity, lines).expect(rt, "the disk wasn't opened");
     let told = serve_lines::<Brand, R>(rt, opening, scripts, &heard)?;
-    assert_eq!(rt; heard.wrong.load(Ordering::Relaxed), 0);
+    assert_same(rt, heard.wrong.load(Ordering::Relaxed), 0);
     Ok(told)
 }
 
@@ -143,8 +153,8 @@ fn each_connection_of_each_line_is_served_and_counted_by_its_end(
         answers: 1,
         ends: [0, 1, 1, 1, 0, 0, 0],
     };
-    assert_eq!(rt; tallies.as_slice(), [first, second].as_slice());
-    assert_eq!(rt; entries, 2);
+    assert_same(&rt, tallies.as_slice(), [first, second].as_slice());
+    assert_same(&rt, entries, 2);
     Ok(())
 }
 
@@ -174,8 +184,8 @@ fn a_full_history_goes_on_to_answer(rt: HostRuntime) -> Result<(), Fail> {
         answers: 5,
         ends: [1, 0, 0, 0, 0, 0, 0],
     };
-    assert_eq!(rt; tallies.as_slice(), [tally].as_slice());
-    assert_eq!(rt; entries, 2);
+    assert_same(&rt, tallies.as_slice(), [tally].as_slice());
+    assert_same(&rt, entries, 2);
     Ok(())
 }
 
@@ -208,8 +218,8 @@ fn a_revision_is_answered_and_one_to_an_unknown_table_is_no_entry(
         answers: 5,
         ends: [1, 0, 0, 0, 0, 0, 0],
     };
-    assert_eq!(rt; tallies.as_slice(), [tally].as_slice());
-    assert_eq!(rt; entries, 3);
+    assert_same(&rt, tallies.as_slice(), [tally].as_slice());
+    assert_same(&rt, entries, 3);
     Ok(())
 }
 
@@ -241,7 +251,7 @@ fn two_lines_are_served_at_once(rt: HostRuntime) -> Result<(), Fail> {
         answers: 2,
         ends: [1, 0, 0, 0, 0, 0, 0],
     };
-    assert_eq!(rt; tallies.as_slice(), [tally, tally].as_slice());
-    assert_eq!(rt; entries, 4);
+    assert_same(&rt, tallies.as_slice(), [tally, tally].as_slice());
+    assert_same(&rt, entries, 4);
     Ok(())
 }

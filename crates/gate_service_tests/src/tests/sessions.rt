@@ -124,6 +124,23 @@ fn session<N: Named, R: Wait>(
     }
 }
 
+/// Serves two sessions of a gate, one after the other, from the first seat.
+fn two_sessions<N: Named, R: Wait>(
+    rt: &R,
+    alloc: Global,
+    office: &Office<N, MemoryDisk>,
+    seats: &mut [Seat<N>],
+    desks: &mut [Desk<N>],
+    trials: (Trial, Trial),
+) -> Option<(Outcome, Outcome)> {
+    let (Some(seat), Some(desk)) = (seats.first_mut(), desks.first_mut()) else {
+        return None;
+    };
+    let first = session(rt, alloc, office, seat, desk, trials.0);
+    let second = session(rt, alloc, office, seat, desk, trials.1);
+    Some((first, second))
+}
+
 /// Serves two sessions of a gate, one after the other, and closes the office.
 fn sessions<N: Named, R: Wait>(
     rt: &R,
@@ -137,11 +154,14 @@ fn sessions<N: Named, R: Wait>(
     let (office, seats, desks) = opening.office::<N, R>(rt, alloc).ok()?;
     let mut seats = seats;
     let mut desks = desks;
-    let (Some(seat), Some(desk)) = (seats.first_mut(), desks.first_mut()) else {
-        return None;
-    };
-    let first = session(rt, alloc, &office, seat, desk, first);
-    let second = session(rt, alloc, &office, seat, desk, second);
+    let (first, second) = two_sessions(
+        rt,
+        alloc,
+        &office,
+        seats.as_mut_slice(),
+        desks.as_mut_slice(),
+        (first, second),
+    )?;
     let closed = office.close(rt, seats).ok()?;
     Some(Outcomes {
         first,
@@ -171,9 +191,9 @@ fn assert_served<R: Abort>(
         answers,
         end,
     };
-    assert_eq!(rt; outcome.served, served);
-    assert_eq!(rt; outcome.taken.as_slice(), taken);
-    assert_eq!(rt; outcome.entries, Some(entries));
+    assert_same(rt, outcome.served, served);
+    assert_same(rt, outcome.taken.as_slice(), taken);
+    assert_same(rt, outcome.entries, Some(entries));
 }
 
 #[test]
@@ -190,7 +210,7 @@ fn a_touch_whose_answer_was_lost_is_answered_the_same_again(rt: HostRuntime) {
     // in: 900 pence are taken, and 1100 are left
     let again = answers(2, 3);
     assert_served(&rt, &outcomes.second, (1, 1, End::Closed), again, 3);
-    assert_eq!(rt; outcomes.entries, 3);
+    assert_same(&rt, outcomes.entries, 3);
 }
 
 #[test]
@@ -204,7 +224,7 @@ fn a_touch_whose_answer_was_written_in_part_is_recorded(rt: HostRuntime) {
         let outcomes = tried(&rt, broken, all_of(b""));
         let part = ANSWERS.get(..room).unwrap_or(b"");
         assert_served(&rt, &outcomes.first, (1, 0, End::WriteFault), part, 1);
-        assert_eq!(rt; outcomes.entries, 1);
+        assert_same(&rt, outcomes.entries, 1);
     }
 }
 
@@ -217,14 +237,14 @@ fn answers_may_be_taken_byte_by_byte(rt: HostRuntime) {
     let outcomes = tried(&rt, slow, all_of(b""));
     let both = answers(0, 2);
     assert_served(&rt, &outcomes.first, (2, 2, End::Closed), both, 2);
-    assert_eq!(rt; outcomes.entries, 2);
+    assert_same(&rt, outcomes.entries, 2);
 }
 
 #[test]
 fn a_frame_that_is_cut_short_is_not_answered(rt: HostRuntime) {
     let outcomes = tried(&rt, all_of(b"\x00\x11"), all_of(b""));
     assert_served(&rt, &outcomes.first, (0, 0, End::CutFrame), b"", 0);
-    assert_eq!(rt; outcomes.entries, 0);
+    assert_same(&rt, outcomes.entries, 0);
 }
 
 /// The frames from this one on are answered in the second session, and then all are recorded.
@@ -232,7 +252,7 @@ fn assert_rest<R: Abort>(rt: &R, outcomes: &Outcomes, from: usize) {
     let served = 4_u64.saturating_sub(from as u64);
     let rest = answers(from, 4);
     assert_served(rt, &outcomes.second, (served, served, End::Closed), rest, 4);
-    assert_eq!(rt; outcomes.entries, 4);
+    assert_same(rt, outcomes.entries, 4);
 }
 
 /// A read fails behind so many bytes, which have so many whole frames.

@@ -7,7 +7,6 @@ use super::tables::{example, of_example};
 use super::*;
 use std::io;
 use std::io::Write;
-use std::process::Abort;
 
 /// How often an audit that was refused memory is begun again.
 const TRIES: u32 = 10;
@@ -46,9 +45,9 @@ fn attempt(rt: &impl Abort, alloc: Global, schedule: Option<Schedule>) -> Result
     let ended = audit_journal(alloc, schedule, Seal::Made, &bytes, &mut room);
     let taken = room.bytes.get(..room.size).unwrap_or(&[]);
     if ended.is_ok() {
-        assert!(rt; taken.ends_with(b"\nsound\n"));
+        assert_same(rt, taken.ends_with(b"\nsound\n"), true);
     } else {
-        assert_eq!(rt; taken.len(), 0);
+        assert_same(rt, taken.len(), 0);
     }
     ended
 }

@@ -16,7 +16,6 @@ fn with_third(second: u8, gate: u8, number: u8) -> [u8; 257] {
 
 #[test]
 fn a_gate_and_number_that_stood_before_is_damage(rt: HostRuntime) -> Result<(), Fail> {
-    let alloc = rt.alloc();
     let rows = [
         (2, 7, 3, None),
         (2, 8, 1, None),
@@ -28,19 +27,14 @@ fn a_gate_and_number_that_stood_before_is_damage(rt: HostRuntime) -> Result<(), 
     ];
     for (second, gate, number, place) in rows {
         let bytes = with_third(second, gate, number);
-        let (text, ended) = audited(alloc, Seal::Unasked, &bytes)?;
         match place {
             None => {
-                assert_eq!(rt; ended, Ok(()));
-                assert!(rt;
-                    text.ends_with("touches 3\nroom 2\ntrailing 1\nsound\n"),
-                    "{text}"
-                );
+                let last = "touches 3\nroom 2\ntrailing 1\nsound\n";
+                assert_sound(&rt, Seal::Unasked, &bytes, last)?;
             }
             Some(place) => {
                 let damaged = AuditFault::Journal(JournalFault::Damaged(place));
-                assert_eq!(rt; ended, Err(damaged));
-                assert_eq!(rt; text.as_str(), "");
+                assert_refused(&rt, Seal::Unasked, &bytes, damaged)?;
             }
         }
     }

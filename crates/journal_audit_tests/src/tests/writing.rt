@@ -27,27 +27,29 @@ impl Write for Taker {
     }
 }
 
+/// A writer of so many bytes takes the beginning of the lines, and the audit fails where there are
+/// more.
+fn assert_begun<R: Abort + AllocGlobal>(rt: &R, whole: &str, left: usize) {
+    let alloc = rt.alloc();
+    let mut writer = Taker {
+        taken: Vec::new(alloc),
+        left,
+    };
+    let ended = audit_journal(alloc, None, Seal::Unasked, &FILE, &mut writer);
+    let size = whole.len().min(left);
+    assert_same_at(rt, writer.taken.as_slice(), &whole.as_bytes()[..size], left);
+    if left < whole.len() {
+        assert_same_at(rt, ended, Err(AuditFault::Write), left);
+    } else {
+        assert_same_at(rt, ended, Ok(()), left);
+    }
+}
+
 #[test]
 fn a_beginning_of_the_lines_stands_where_a_write_fails(rt: HostRuntime) -> Result<(), Fail> {
-    let alloc = rt.alloc();
+    let whole = format!(in rt.alloc(); "{LINES}sound\n")?;
     for left in [0, 10, 30, 1_000] {
-        let mut writer = Taker {
-            taken: Vec::new(alloc),
-            left,
-        };
-        let ended = audit_journal(alloc, None, Seal::Unasked, &FILE, &mut writer);
-        let whole = format!(in alloc; "{LINES}sound\n")?;
-        let size = whole.len().min(left);
-        assert_eq!(rt;
-            writer.taken.as_slice(),
-            &whole.as_bytes()[..size],
-            "{left}"
-        );
-        if left < whole.len() {
-            assert_eq!(rt; ended, Err(AuditFault::Write), "{left}");
-        } else {
-            assert_eq!(rt; ended, Ok(()));
-        }
+        assert_begun(&rt, whole.as_str(), left);
     }
     Ok(())
 }

@@ -3,7 +3,6 @@
 use super::*;
 use std::io;
 use std::io::{ErrorKind, Write};
-use std::process::Abort;
 
 /// How often balances that were refused memory are begun again.
 const TRIES: u32 = 10;
@@ -43,26 +42,28 @@ fn taker_of(left: usize) -> Taker {
     }
 }
 
+/// A writer of so many bytes takes the beginning of the worked journal's rows, and the balances
+/// fail where there are more.
+fn assert_begun<R: Abort + AllocGlobal>(rt: &R, bytes: &[u8], left: usize) -> Result<(), Fail> {
+    let whole = b"card,state,balance,paid_in,charged\r\n1,outside,1650,2000,350\r\n";
+    let schedule = example(rt.alloc()).ok_or("tables")?;
+    let mut writer = taker_of(left);
+    let ended = write_balances(rt.alloc(), schedule, None, bytes, &mut writer);
+    let size = whole.len().min(left);
+    assert_same_at(rt, writer.bytes.get(..writer.size), whole.get(..size), left);
+    if left < whole.len() {
+        assert_same_at(rt, ended, Err(BalancesFault::Write), left);
+    } else {
+        assert_same_at(rt, ended, Ok(totals(1, 2_000, 350, 1_650)), left);
+    }
+    Ok(())
+}
+
 #[test]
 fn a_beginning_of_the_rows_stands_where_a_write_fails(rt: HostRuntime) -> Result<(), Fail> {
-    let alloc = rt.alloc();
-    let bytes = journal(alloc, b'2', 64, &WORKED).ok_or("a journal")?;
-    let whole = b"card,state,balance,paid_in,charged\r\n1,outside,1650,2000,350\r\n";
+    let bytes = journal(rt.alloc(), b'2', 64, &WORKED).ok_or("a journal")?;
     for left in [0, 10, 40, 100] {
-        let schedule = example(alloc).ok_or("tables")?;
-        let mut writer = taker_of(left);
-        let ended = write_balances(alloc, schedule, None, &bytes, &mut writer);
-        let size = whole.len().min(left);
-        assert_eq!(rt;
-            writer.bytes.get(..writer.size),
-            whole.get(..size),
-            "{left}"
-        );
-        if left < whole.len() {
-            assert_eq!(rt; ended, Err(BalancesFault::Write), "{left}");
-        } else {
-            assert_eq!(rt; ended, Ok(totals(1, 2_000, 350, 1_650)));
-        }
+        assert_begun(&rt, &bytes, left)?;
     }
     Ok(())
 }
@@ -75,7 +76,7 @@ fn attempt(rt: &impl Abort, alloc: Global) -> Option<Result<Totals, BalancesFaul
     let mut writer = taker_of(100);
     let ended = write_balances(alloc, schedule, None, &bytes, &mut writer);
     if ended.is_err() {
-        assert_eq!(rt; writer.size, 0);
+        assert_same(rt, writer.size, 0);
     }
     Some(ended)
 }
@@ -85,7 +86,7 @@ fn balances_that_were_refused_memory_are_begun_again(rt: HostRuntime) -> Result<
     for _ in 0..TRIES {
         match attempt(&rt, rt.alloc()) {
             Some(Ok(told)) => {
-                assert_eq!(rt; told, totals(1, 2_000, 350, 1_650));
+                assert_same(&rt, told, totals(1, 2_000, 350, 1_650));
                 return Ok(());
             }
             None => {}

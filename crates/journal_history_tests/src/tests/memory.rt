@@ -3,7 +3,6 @@
 use super::*;
 use std::io;
 use std::io::Write;
-use std::process::Abort;
 
 /// How often a history that was refused memory is begun again.
 const TRIES: u32 = 10;
@@ -41,9 +40,9 @@ fn attempt(rt: &impl Abort, alloc: Global) -> Option<Result<(), HistoryFault>> {
     let ended = write_history(alloc, schedule, ALL, HistoryFormat::Csv, bytes, &mut room);
     let taken = room.bytes.get(..room.size).unwrap_or(&[]);
     if ended.is_ok() {
-        assert!(rt; taken.ends_with(b",Exited,550,1650\r\n"));
+        assert_same(rt, taken.ends_with(b",Exited,550,1650\r\n"), true);
     } else {
-        assert_eq!(rt; taken.len(), 0);
+        assert_same(rt, taken.len(), 0);
     }
     Some(ended)
 }

@@ -135,15 +135,17 @@ const JOURNEYS: [(&str, &str); 18] = [
     ),
 ];
 
-/// The journal's rows that end behind one another in these texts, behind the heading.
-fn are_told(alloc: Global, touches: &[(&str, &str)]) -> Result<bool, Fail> {
+/// The journal of these touches.
+fn journal_of(alloc: Global, touches: &[(&str, &str)]) -> Result<Vec<u8>, Fail> {
     let mut frames = Vec::new(alloc);
     for (frame, _) in touches {
         frames.push(*frame)?;
     }
-    let bytes = journal(alloc, false, &frames).ok_or("a journal")?;
-    let (text, ended) = told(alloc, ALL, HistoryFormat::Csv, &bytes)?;
-    ended?;
+    Ok(journal(alloc, false, &frames).ok_or("a journal")?)
+}
+
+/// Whether a text has a row for each touch behind its heading, and each ends as its touch says.
+fn end_so(text: &str, touches: &[(&str, &str)]) -> Result<bool, Fail> {
     let (_, behind) = text.split_once("\r\n").ok_or("a heading")?;
     let mut rest = behind;
     for (_, want) in touches {
@@ -156,36 +158,45 @@ fn are_told(alloc: Global, touches: &[(&str, &str)]) -> Result<bool, Fail> {
     Ok(rest.is_empty())
 }
 
+/// Whether the journal of these touches is told by rows that end as they say.
+fn are_told(alloc: Global, touches: &[(&str, &str)]) -> Result<bool, Fail> {
+    let bytes = journal_of(alloc, touches)?;
+    let (text, ended) = told(alloc, ALL, HistoryFormat::Csv, &bytes)?;
+    ended?;
+    end_so(text.as_str(), touches)
+}
+
+/// The worked journal with the two revisions behind its touches.
+fn revised_journal(alloc: Global) -> Result<Vec<u8>, Fail> {
+    let mut frames = FRAMES.to_vec(alloc)?;
+    frames.extend_from_slice(&REVISIONS)?;
+    Ok(journal(alloc, false, &frames).ok_or("a journal")?)
+}
+
 #[test]
 fn each_verdict_has_its_name(rt: HostRuntime) -> Result<(), Fail> {
     let alloc = rt.alloc();
-    assert!(rt; are_told(alloc, &TOUCHES)?);
-    assert!(rt; are_told(alloc, &JOURNEYS)?);
+    assert_same(&rt, are_told(alloc, &TOUCHES)?, true);
+    assert_same(&rt, are_told(alloc, &JOURNEYS)?, true);
     Ok(())
 }
 
 #[test]
 fn a_revision_stands_under_its_own_day(rt: HostRuntime) -> Result<(), Fail> {
     let alloc = rt.alloc();
-    let mut frames = FRAMES.to_vec(alloc)?;
-    frames.extend_from_slice(&REVISIONS)?;
-    let bytes = journal(alloc, false, &frames).ok_or("a journal")?;
-    let (text, ended) = told(alloc, ALL, HistoryFormat::Csv, &bytes)?;
-    assert_eq!(rt; ended, Ok(()));
-    let (rows, revised) = (
-        text_of(alloc, &ROWS, "\r\n")?,
-        text_of(alloc, &REVISED, "\r\n")?,
-    );
-    assert_eq!(rt; text, format!(in alloc; "{HEADING}\r\n{rows}{revised}")?);
-    Ok(())
+    let mut rows = worked_rows(alloc)?;
+    for row in REVISED {
+        rows.push_str(row)?;
+        rows.push_str("\r\n")?;
+    }
+    let bytes = revised_journal(alloc)?;
+    assert_told(&rt, ALL, HistoryFormat::Csv, &bytes, rows.as_str())
 }
 
 #[test]
 fn the_touches_of_a_card_and_of_a_day_are_told(rt: HostRuntime) -> Result<(), Fail> {
     let alloc = rt.alloc();
-    let mut frames = FRAMES.to_vec(alloc)?;
-    frames.extend_from_slice(&REVISIONS)?;
-    let bytes = journal(alloc, false, &frames).ok_or("a journal")?;
+    let bytes = revised_journal(alloc)?;
     let rows: [(Option<u32>, Option<i32>, &[&str]); 6] = [
         (Some(1), None, &FRAMES),
         (Some(9), None, &[]),
@@ -195,9 +206,9 @@ fn the_touches_of_a_card_and_of_a_day_are_told(rt: HostRuntime) -> Result<(), Fa
         (Some(1), Some(20_095), &[]),
     ];
     for (card, day, want) in rows {
-        let (text, ended) = told(alloc, Wanted { card, day }, HistoryFormat::Frames, &bytes)?;
-        assert_eq!(rt; ended, Ok(()));
-        assert_eq!(rt; text, text_of(alloc, want, "\n")?);
+        let frames = text_of(alloc, want, "\n")?;
+        let wanted = Wanted { card, day };
+        assert_told(&rt, wanted, HistoryFormat::Frames, &bytes, frames.as_str())?;
     }
     Ok(())
 }

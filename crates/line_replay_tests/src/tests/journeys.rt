@@ -1,7 +1,7 @@
 //! Journeys by lines in and lines out, on the example table: the amounts are worked out by hand from
 //! the rules of docs/FARES.md.
 
-use super::replayed;
+use super::assert_replayed;
 use std::alloc::{AllocError, Global};
 use std::process::Abort;
 use std::test::Fail;
@@ -93,10 +93,7 @@ fn check<R: Abort + AllocGlobal>(
 ) -> Result<(), Fail> {
     let alloc = rt.alloc();
     let (asked, answered) = lines(alloc, day, steps)?;
-    let (written, ended) = replayed(alloc, asked.as_bytes())?;
-    assert_eq!(rt; ended, Ok(()), "{told}");
-    assert_eq!(rt; written.as_slice(), answered.as_bytes(), "{told}");
-    Ok(())
+    assert_replayed(rt, asked.as_bytes(), Ok(()), answered.as_bytes(), told)
 }
 
 /// The weekday of three journeys from 2 to 1.

@@ -1,8 +1,7 @@
 //! A replay that is refused memory.
 
-use super::lines_of;
-use super::revision::{behind, both};
-use super::rows::REVISION;
+use super::assert_same_at;
+use super::revision::{both, revised_lines};
 use line_replay::{RunFault, replay_text};
 use std::alloc::Global;
 use std::io;
@@ -37,9 +36,8 @@ impl Write for Room {
 /// How the replay of the worked revision ends, whose answers stand as far as they were written.
 /// There is none where there was no memory for what it is given.
 fn attempt(rt: &impl Abort, alloc: Global) -> Option<Result<(), RunFault>> {
-    let rows = behind(alloc, &REVISION).ok()?;
-    let asked = lines_of(alloc, rows.as_slice(), false).ok()?;
-    let answered = lines_of(alloc, rows.as_slice(), true).ok()?;
+    let asked = revised_lines(alloc, false).ok()?;
+    let answered = revised_lines(alloc, true).ok()?;
     let schedule = both(alloc)?;
     let mut room = Room {
         bytes: [0; 1024],
@@ -47,9 +45,9 @@ fn attempt(rt: &impl Abort, alloc: Global) -> Option<Result<(), RunFault>> {
     };
     let ended = replay_text(alloc, schedule, 10, &mut asked.as_slice(), &mut room, 1_000);
     let taken = room.bytes.get(..room.size).unwrap_or(&[]);
-    assert!(rt; answered.starts_with(taken));
+    assert_same_at(rt, answered.starts_with(taken), true, "beginning");
     if ended.is_ok() {
-        assert_eq!(rt; taken.len(), answered.len());
+        assert_same_at(rt, taken.len(), answered.len(), "length");
     }
     Some(ended)
 }

@@ -4,7 +4,7 @@ ghost use Rattle.std.specs.Prelude.{◌≡◌, [], IfSome};
 ghost use Rattle.fare_schedule.specs.Schedule.{revisions_of};
 
 use super::rows::{FIRST_PATH, REVISION, UNKNOWN_TABLE};
-use super::{Row, example, lines_of, replayed};
+use super::{Row, assert_answered, assert_replayed, assert_same_at, example, lines_of};
 use fare_schedule::Schedule;
 use fare_table::{EXAMPLE_TABLE, Fares};
 use line_replay::{RunFault, replay_text};
@@ -40,19 +40,25 @@ pub(super) fn both(alloc: Global) -> Option<Schedule>
 }
 
 /// The rows of the first path, and then these.
-pub(super) fn behind(alloc: Global, rows: &[Row]) -> Result<Vec<Row>, AllocError> {
+fn behind(alloc: Global, rows: &[Row]) -> Result<Vec<Row>, AllocError> {
     let mut all = FIRST_PATH.to_vec(alloc)?;
     all.extend_from_slice(rows)?;
     Ok(all)
 }
 
+/// The lines of the first path and the revision: those that are read, or those written.
+pub(super) fn revised_lines(alloc: Global, written: bool) -> Result<Vec<u8>, AllocError> {
+    let rows = behind(alloc, &REVISION)?;
+    lines_of(alloc, rows.as_slice(), written)
+}
+
 #[test]
 fn a_revision_changes_the_fares_of_later_journeys(rt: HostRuntime) -> Result<(), Fail> {
     let alloc = rt.alloc();
-    let rows = behind(alloc, &REVISION)?;
-    let asked = lines_of(alloc, rows.as_slice(), false)?;
-    let mut written = Vec::new(alloc);
+    let asked = revised_lines(alloc, false)?;
+    let answered = revised_lines(alloc, true)?;
     let schedule = both(alloc).ok_or("a schedule")?;
+    let mut written = Vec::new(alloc);
     let ended = replay_text(
         alloc,
         schedule,
@@ -61,32 +67,24 @@ fn a_revision_changes_the_fares_of_later_journeys(rt: HostRuntime) -> Result<(),
         &mut written,
         1_000,
     );
-    assert_eq!(rt; ended, Ok(()));
-    let answered = lines_of(alloc, rows.as_slice(), true)?;
-    assert_eq!(rt; written.as_slice(), answered.as_slice());
+    assert_same_at(&rt, ended, Ok(()), "end");
+    assert_same_at(&rt, written.as_slice(), answered.as_slice(), "answers");
     Ok(())
 }
 
 #[test]
 fn a_revision_to_a_table_that_is_not_there_is_no_entry(rt: HostRuntime) -> Result<(), Fail> {
-    let alloc = rt.alloc();
-    let rows = behind(alloc, &UNKNOWN_TABLE)?;
-    let asked = lines_of(alloc, rows.as_slice(), false)?;
-    let (written, ended) = replayed(alloc, asked.as_slice())?;
-    assert_eq!(rt; ended, Ok(()));
-    let answered = lines_of(alloc, rows.as_slice(), true)?;
-    assert_eq!(rt; written.as_slice(), answered.as_slice());
-    Ok(())
+    let rows = behind(rt.alloc(), &UNKNOWN_TABLE)?;
+    assert_answered(&rt, rows.as_slice())
 }
 
 #[test]
 fn a_revision_of_another_length_is_a_bad_line(rt: HostRuntime) -> Result<(), Fail> {
-    let alloc = rt.alloc();
     let (revision, _) = REVISION[1];
     for size in [104, 105] {
-        let (written, ended) = replayed(alloc, &revision.as_bytes()[..size])?;
-        assert_eq!(rt; ended, Err(RunFault::BadLine(1)), "{size} digits");
-        assert_eq!(rt; written.as_slice(), b"0008ff01000000000000\n".as_slice());
+        let digits = &revision.as_bytes()[..size];
+        let fault = Err(RunFault::BadLine(1));
+        assert_replayed(&rt, digits, fault, b"0008ff01000000000000\n", size)?;
     }
     Ok(())
 }

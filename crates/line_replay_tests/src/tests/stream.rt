@@ -1,5 +1,6 @@
 //! Inputs that are read whole.
 
+use super::assert_same_at;
 use super::fakes::Pieces;
 use line_replay::{RunFault, read_all};
 use std::alloc::{AllocError, Global};
@@ -28,12 +29,12 @@ fn an_input_is_read_to_its_end(rt: HostRuntime) -> Result<(), Fail> {
             fails: false,
         };
         let read = read_all(alloc, &mut reader, turns).ok().ok_or("no fault")?;
-        assert_eq!(rt; read.as_slice(), bytes.as_slice(), "{size} a read");
+        assert_same_at(&rt, read.as_slice(), bytes.as_slice(), size);
     }
     let none = read_all(alloc, &mut b"".as_slice(), 1)
         .ok()
         .ok_or("no fault")?;
-    assert!(rt; none.is_empty());
+    assert_same_at(&rt, none.is_empty(), true, "none");
     Ok(())
 }
 
@@ -54,8 +55,8 @@ fn an_input_that_fails_or_takes_too_many_reads_is_refused(rt: HostRuntime) -> Re
             fails,
         };
         let fault = read_all(alloc, &mut reader, turns).err();
-        assert_eq!(rt; fault, Some(RunFault::Read), "{turns} reads");
-        assert_eq!(rt; reader.rest.len(), left, "{turns} reads");
+        assert_same_at(&rt, fault, Some(RunFault::Read), turns);
+        assert_same_at(&rt, reader.rest.len(), left, turns);
     }
     Ok(())
 }

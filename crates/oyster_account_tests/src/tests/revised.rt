@@ -67,6 +67,15 @@ fn is_after_last(schedule: &Schedule, day: i32) -> bool
     }
 }
 
+/// Makes the schedule go by the table of this digest from Tuesday on.
+fn revise_to(rt: &impl Abort, schedule: &mut Schedule, digest: &[u8; 32]) {
+    schedule.ready().ok().expect(rt, "room");
+    assert_that(rt, schedule.has_room());
+    assert_that(rt, schedule.knows(digest));
+    assert_that(rt, is_after_last(schedule, TUESDAY));
+    schedule.revise(digest, TUESDAY);
+}
+
 /// A schedule of a table, and of the table with these changes from Tuesday on.
 fn revised(rt: &impl Abort, alloc: Global, first: &str, changes: &[Change]) -> Schedule {
     let mut schedule = Schedule::new(alloc, table(rt, alloc, first))
@@ -75,12 +84,8 @@ fn revised(rt: &impl Abort, alloc: Global, first: &str, changes: &[Change]) -> S
     let text = changed(alloc, first, changes).expect(rt, "a changed text");
     let other = table(rt, alloc, text.as_str());
     let digest = other.digest();
-    assert_eq!(rt; schedule.supply(other), Ok(()));
-    schedule.ready().ok().expect(rt, "room");
-    assert!(rt; schedule.has_room());
-    assert!(rt; schedule.knows(&digest));
-    assert!(rt; is_after_last(&schedule, TUESDAY));
-    schedule.revise(&digest, TUESDAY);
+    assert_same(rt, schedule.supply(other), Ok(()));
+    revise_to(rt, &mut schedule, &digest);
     schedule
 }
 
@@ -176,9 +181,5 @@ fn a_card_answers_as_a_plain_account_does_over_a_revision(rt: HostRuntime) -> Re
     let alloc = rt.alloc();
     let schedule = revised(&rt, alloc, WIDE_TABLE, &WIDE_OTHERWISE);
     let mut wanderer = Wanderer::new();
-    for _ in 0..100 {
-        wander(&rt, alloc, &schedule, &mut wanderer)?;
-        wanderer.turn_to_another_card();
-    }
-    Ok(())
+    wander_on(&rt, alloc, &schedule, &mut wanderer)
 }

@@ -166,10 +166,10 @@ fn assert_makes_room(rt: &impl Abort, book: &mut Book, revision: &Touch, unknown
     requires { Stands book.old }
 {
     make_ready(rt, book, unknown);
-    assert!(rt; book.has_room(unknown));
-    assert!(rt; !book.has_room(revision));
+    assert_that(rt, book.has_room(unknown));
+    assert_that(rt, !book.has_room(revision));
     make_ready(rt, book, revision);
-    assert!(rt; book.has_room(revision));
+    assert_that(rt, book.has_room(revision));
 }
 
 #[test]
@@ -229,7 +229,7 @@ fn a_book_is_made_of_its_revisions(rt: HostRuntime) {
 
 /// Whether the book has the table that a touch is judged by.
 fn assert_knows(rt: &impl Abort, book: &Book, touch: &Touch, is_known: bool) {
-    assert_eq!(rt; book.knows(touch), is_known);
+    assert_same(rt, book.knows(touch), is_known);
 }
 
 #[test]

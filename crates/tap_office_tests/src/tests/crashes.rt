@@ -28,9 +28,9 @@ fn commit_two<R: Wait + Abort>(
         from_first(ENTER, want),
     ];
     let (outcome, disk) = work(rt, alloc, disk, &steps);
-    assert_eq!(rt; outcome.stray, None);
-    assert_eq!(rt; outcome.end.halted, want == HALTED);
-    assert_eq!(rt; outcome.end.cause, None);
+    assert_same(rt, outcome.stray, None);
+    assert_same(rt, outcome.end.halted, want == HALTED);
+    assert_same(rt, outcome.end.cause, None);
     disk
 }
 
@@ -50,7 +50,7 @@ fn go_on<R: Wait + Abort>(rt: &R, alloc: Global, disk: MemoryDisk, found: u32) {
         from_first(LEAVE, Answer::First(3, REPLIES[3])),
     ];
     let outcome = outcome_of(rt, alloc, disk, &steps);
-    assert_eq!(rt; outcome, worked(found, 1650, 4));
+    assert_same(rt, outcome, worked(found, 1650, 4));
 }
 
 /// Goes on from what each choice of a crash leaves, and from the disk as it is. They have so many
@@ -125,14 +125,12 @@ fn assert_halts<R: Wait + Abort>(rt: &R, alloc: Global, disk: MemoryDisk, found:
         halted: true,
         entries: 1,
     };
-    assert_eq!(rt;
-        outcome,
-        Outcome {
-            end,
-            ..worked(1, 0, 1)
-        }
-    );
-    assert_eq!(rt; outcome_of(rt, alloc, disk, &[]).opened, found);
+    let want = Outcome {
+        end,
+        ..worked(1, 0, 1)
+    };
+    assert_same(rt, outcome, want);
+    assert_same(rt, outcome_of(rt, alloc, disk, &[]).opened, found);
 }
 
 #[test]

@@ -160,8 +160,8 @@ fn workers_of<N: Named>(
 /// A worker had each answer, and none was wrong.
 fn assert_answered<N: Named>(rt: &impl Abort, worker: &Worker<N>) {
     let answers = if worker.commits { TOUCHES } else { ENQUIRIES };
-    assert_eq!(rt; worker.log.wrong, 0);
-    assert_eq!(rt; worker.log.answers, answers);
+    assert_same(rt, worker.log.wrong, 0);
+    assert_same(rt, worker.log.answers, answers);
 }
 
 /// The workers' seats, and what each worker heard.
@@ -227,12 +227,12 @@ fn view_after(alloc: Global, touches: &[Touch]) -> Option<CardView> {
 
 /// Each answer is the view of card 1 after as many touches of the history as it was of.
 fn compare(rt: &impl Abort, alloc: Global, touches: &[Touch], answers: &[Enquiry]) {
-    assert!(rt; !answers.is_empty());
+    assert_that(rt, !answers.is_empty());
     for answer in answers {
         let front = answer.front as usize;
         assert!(rt; front <= touches.len());
         let view = view_after(alloc, &touches[..front]);
-        assert_eq!(rt; Some(answer.view), view, "front {front}");
+        assert_same_at(rt, Some(answer.view), view, ("front", front));
     }
 }
 
@@ -251,6 +251,6 @@ fn desks_answer_from_beginnings_of_the_history(rt: HostRuntime) {
         .ok()
         .expect(&rt, "the disk wasn't opened");
     let (touches, heard) = commit_and_ask::<Brand, HostRuntime>(&rt, alloc, opening);
-    assert_eq!(rt; touches.len(), 41);
+    assert_same(&rt, touches.len(), 41);
     compare_all(&rt, alloc, &touches, &heard);
 }

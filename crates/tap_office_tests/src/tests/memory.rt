@@ -63,7 +63,7 @@ fn work_again<R: Wait + Abort>(
             Ok(done) => return Some(done),
             Err(fault) => {
                 let short = matches!(fault.cause, JournalFault::Memory | JournalFault::NoDesk);
-                assert!(rt; short);
+                assert_that(rt, short);
                 disk = fault.disk;
             }
         }
@@ -74,10 +74,13 @@ fn work_again<R: Wait + Abort>(
 /// A disk that failed at a touch for want of memory halted its office, which ended so. The disk has
 /// what was answered, with that touch or without.
 fn assert_halted<R: Wait + Abort>(rt: &R, alloc: Global, disk: MemoryDisk, given: Given, end: End) {
-    assert!(rt; end.halted);
-    assert_eq!(rt; disk.failures(), 1);
+    assert_that(rt, end.halted);
+    assert_same(rt, disk.failures(), 1);
     let found = work_with(rt, alloc, disk, given, &[]).0.opened;
-    assert!(rt; found == end.entries || found == end.entries.saturating_add(1));
+    assert_that(
+        rt,
+        found == end.entries || found == end.entries.saturating_add(1),
+    );
 }
 
 /// Works through the steps as with ample memory, up to a touch at which the disk failed for want of
@@ -95,10 +98,15 @@ fn assert_worked<R: Wait + Abort>(
         "no office was made",
     );
     if let Some((row, answer)) = outcome.stray {
-        assert_eq!(rt; answer, Answer::Fault(SubmitFault::Halted), "step {row}");
+        assert_same_at(
+            rt,
+            answer,
+            Answer::Fault(SubmitFault::Halted),
+            ("step", row),
+        );
         assert_halted(rt, alloc, disk, given, outcome.end);
     } else {
-        assert_eq!(rt; outcome, want);
+        assert_same(rt, outcome, want);
     }
 }
 
@@ -176,7 +184,7 @@ fn assert_refused(
     let fault = read_again(rt, alloc, disk, Given::Example, cards)
         .err()
         .expect(rt, "the disk was opened");
-    assert_eq!(rt; fault.cause, want);
+    assert_same(rt, fault.cause, want);
 }
 
 #[test]

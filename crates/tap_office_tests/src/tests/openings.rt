@@ -23,12 +23,12 @@ fn a_number_out_of_its_limits_costs_no_disk_call(rt: HostRuntime) {
     let alloc = rt.alloc();
     for (cards, seats) in [(0, 1), (100_001, 1), (CARDS, 0), (CARDS, 65)] {
         let fault = refused(&rt, alloc, disk_of(&rt, alloc, 5, &[]), cards, seats);
-        assert_eq!(rt; fault.cause, JournalFault::BadLimit);
-        assert_eq!(rt; fault.disk.calls(), 0);
+        assert_same(&rt, fault.cause, JournalFault::BadLimit);
+        assert_same(&rt, fault.disk.calls(), 0);
     }
     for seats in [1, 64] {
         let disk = disk_of(&rt, alloc, 5, &[]);
-        assert!(rt; read(&rt, alloc, disk, CARDS, seats).is_ok());
+        assert_that(&rt, read(&rt, alloc, disk, CARDS, seats).is_ok());
     }
 }
 
@@ -37,19 +37,20 @@ fn a_touch_that_was_journalled_twice_is_damage(rt: HostRuntime) {
     let alloc = rt.alloc();
     for (touches, place) in [([ISSUE, ISSUE, TOP_UP], 1), ([ISSUE, TOP_UP, ISSUE], 2)] {
         let fault = refused(&rt, alloc, disk_of(&rt, alloc, 5, &touches), CARDS, 1);
-        assert_eq!(rt; fault.cause, JournalFault::Damaged(place));
-        assert_eq!(rt; fault.disk.failures(), 0);
+        assert_same(&rt, fault.cause, JournalFault::Damaged(place));
+        assert_same(&rt, fault.disk.failures(), 0);
     }
 }
 
 /// A disk that fails isn't opened; handed back and mended it is, with its two touches.
 fn assert_opened_again<R: Wait + Abort>(rt: &R, alloc: Global, disk: MemoryDisk) {
     let fault = refused(rt, alloc, disk, CARDS, 2);
-    assert_eq!(rt; fault.cause, JournalFault::Device);
+    assert_same(rt, fault.cause, JournalFault::Device);
     let mut disk = fault.disk;
     disk.fail_at(0);
     let steps = [from_first(TOP_UP, Answer::Again(1, REPLIES[1]))];
-    assert_eq!(rt; outcome_of(rt, alloc, disk, &steps), worked(2, 2000, 2));
+    let outcome = outcome_of(rt, alloc, disk, &steps);
+    assert_same(rt, outcome, worked(2, 2000, 2));
 }
 
 #[test]
@@ -57,7 +58,7 @@ fn an_opening_that_failed_can_be_made_again(rt: HostRuntime) {
     let alloc = rt.alloc();
     let base = disk_of(&rt, alloc, 5, &[ISSUE, TOP_UP]);
     let calls = opening_calls(&rt, alloc, &base);
-    assert!(rt; 1 < calls);
+    assert_that(&rt, 1 < calls);
     for stop in 0..calls {
         let mut disk = crashed(&rt, &base, Choice::New);
         disk.stop_after(stop);

@@ -142,15 +142,15 @@ fn a_revision_is_committed_and_stays_after_an_opening(rt: HostRuntime) {
         from_first(REVISE, Answer::Again(5, REVISED_REPLY)),
     ];
     let (outcome, disk) = work_with(&rt, alloc, disk, Given::Revised, &steps);
-    assert_eq!(rt; outcome, worked(4, 1650, 6));
+    assert_same(&rt, outcome, worked(4, 1650, 6));
     let steps = [
         from_first(TRAVELLED, Answer::Again(4, BAD_DAY)),
         from_first(REVISE, Answer::Again(5, REVISED_REPLY)),
     ];
     let (outcome, disk) = work_with(&rt, alloc, disk, Given::Revised, &steps);
-    assert_eq!(rt; outcome, worked(6, 1650, 6));
+    assert_same(&rt, outcome, worked(6, 1650, 6));
     let (outcome, _disk) = work_with(&rt, alloc, disk, Given::Revised, &new_prices());
-    assert_eq!(rt; outcome, worked(6, 980, 10));
+    assert_same(&rt, outcome, worked(6, 980, 10));
 }
 
 /// What a disk holds.
@@ -165,26 +165,29 @@ fn content_of(rt: &impl Abort, alloc: Global, disk: &MemoryDisk) -> Vec<u8> {
     bytes
 }
 
+/// The disks hold the same.
+fn assert_same_content(rt: &impl Abort, alloc: Global, found: &MemoryDisk, want: &MemoryDisk) {
+    let want = content_of(rt, alloc, want);
+    assert_same(rt, content_of(rt, alloc, found).as_slice(), want.as_slice());
+}
+
 #[test]
 fn a_revision_to_a_table_that_is_not_there_is_no_entry(rt: HostRuntime) {
     let alloc = rt.alloc();
     let base = disk_of(&rt, alloc, 10, &[ISSUE, TOP_UP, ENTER, LEAVE]);
     let (outcome, untouched) = work(&rt, alloc, crashed(&rt, &base, Choice::New), &[]);
-    assert_eq!(rt; outcome, worked(4, 1650, 4));
+    assert_same(&rt, outcome, worked(4, 1650, 4));
     let steps = [
         from_first(REVISE, Answer::Fault(SubmitFault::UnknownTable)),
         from_first(REVISE, Answer::Fault(SubmitFault::UnknownTable)),
     ];
     let (outcome, disk) = work(&rt, alloc, crashed(&rt, &base, Choice::New), &steps);
-    assert_eq!(rt; outcome, worked(4, 1650, 4));
-    assert_eq!(rt; disk.calls(), untouched.calls());
-    assert_eq!(rt;
-        content_of(&rt, alloc, &disk),
-        content_of(&rt, alloc, &base)
-    );
+    assert_same(&rt, outcome, worked(4, 1650, 4));
+    assert_same(&rt, disk.calls(), untouched.calls());
+    assert_same_content(&rt, alloc, &disk, &base);
     let steps = [from_first(REVISE, Answer::First(4, REVISED_REPLY))];
     let (outcome, _disk) = work_with(&rt, alloc, disk, Given::Revised, &steps);
-    assert_eq!(rt; outcome, worked(4, 1650, 5));
+    assert_same(&rt, outcome, worked(4, 1650, 5));
 }
 
 #[test]
@@ -197,10 +200,10 @@ fn an_unknown_table_comes_behind_a_conflict_and_before_a_full_journal(rt: HostRu
         from_first(ENTER, Answer::Fault(SubmitFault::Full)),
     ];
     let (outcome, disk) = work(&rt, alloc, full, &steps);
-    assert_eq!(rt; outcome, worked(2, 2000, 2));
+    assert_same(&rt, outcome, worked(2, 2000, 2));
     let steps = [from_first(REVISE, Answer::Fault(SubmitFault::Full))];
     let (outcome, _disk) = work_with(&rt, alloc, disk, Given::Revised, &steps);
-    assert_eq!(rt; outcome, worked(2, 2000, 2));
+    assert_same(&rt, outcome, worked(2, 2000, 2));
 }
 
 /// A journal of these touches isn't opened by these tables, for this cause. The disk is handed back
@@ -217,9 +220,10 @@ fn assert_refused(
     let fault = read_with(rt, alloc, disk, given, CARDS, 1)
         .err()
         .expect(rt, "the disk was opened");
-    assert_eq!(rt; fault.cause, want);
-    assert_eq!(rt; fault.disk.failures(), 0);
-    assert_eq!(rt; content_of(rt, alloc, &fault.disk), before);
+    assert_same(rt, fault.cause, want);
+    assert_same(rt, fault.disk.failures(), 0);
+    let after = content_of(rt, alloc, &fault.disk);
+    assert_same(rt, after.as_slice(), before.as_slice());
     fault.disk
 }
 
@@ -229,7 +233,7 @@ fn a_journal_that_names_a_missing_table_is_not_opened(rt: HostRuntime) {
     let want = JournalFault::MissingTable(4);
     let disk = assert_refused(&rt, alloc, &missing_touches(), Given::Example, want);
     let (outcome, _disk) = work_with(&rt, alloc, disk, Given::Revised, &[]);
-    assert_eq!(rt; outcome, worked(6, 1650, 6));
+    assert_same(&rt, outcome, worked(6, 1650, 6));
 }
 
 #[test]

@@ -48,7 +48,7 @@ fn learn<N: Named>(rt: &impl Abort, desk: &mut Desk<N>, receipt: Receipt<N>) -> 
     };
     desk.learn(receipt);
     let heard = desk.enquire(1).expect(rt, "a desk had no answer");
-    assert!(rt; place < heard.front);
+    assert_that(rt, place < heard.front);
     answer
 }
 
@@ -79,7 +79,7 @@ fn assert_filed<N: Named>(rt: &impl Abort, seat: &Seat<N>, touch: Touch, answer:
             touch,
             reply,
         };
-        assert_eq!(rt; seat.receipts().last().copied(), Some(filed));
+        assert_same(rt, seat.receipts().last().copied(), Some(filed));
     }
 }
 
@@ -98,7 +98,7 @@ fn submit_steps<N: Named, R: Wait + Abort>(
         let seat = &mut seats[step.seat];
         let before = seat.seen();
         let answer = submit_again(rt, office, seat, desk, step.touch);
-        assert!(rt; before <= seat.seen(), "step {row}");
+        assert_same_at(rt, before <= seat.seen(), true, ("step", row));
         assert_filed(rt, seat, step.touch, answer);
         if answer != step.want {
             return Some((row, answer));
@@ -128,7 +128,7 @@ fn close<N: Named, R: Wait + Abort>(
         let _kept = seats.pop();
     }
     let closed = office.close(rt, seats);
-    assert_eq!(rt; learner.enquire(1), None);
+    assert_same(rt, learner.enquire(1), None);
     end_of(closed)
 }
 
@@ -233,7 +233,7 @@ fn a_full_journal_still_answers_repeats(rt: HostRuntime) {
     let alloc = rt.alloc();
     let disk = disk_of(&rt, alloc, 2, &[]);
     let outcome = outcome_of(&rt, alloc, disk, &full_steps());
-    assert_eq!(rt; outcome, worked(0, 2000, 2));
+    assert_same(&rt, outcome, worked(0, 2000, 2));
 }
 
 #[test]
@@ -257,7 +257,8 @@ fn another_touch_under_a_used_number_is_a_conflict(rt: HostRuntime) {
         },
         from_first(TOP_UP, Answer::Again(1, REPLIES[1])),
     ];
-    assert_eq!(rt; outcome_of(&rt, alloc, disk, &steps), worked(3, 1650, 4));
+    let outcome = outcome_of(&rt, alloc, disk, &steps);
+    assert_same(&rt, outcome, worked(3, 1650, 4));
 }
 
 #[test]
@@ -271,12 +272,13 @@ fn a_repeat_after_closing_and_opening_gets_its_first_reply(rt: HostRuntime) {
         from_first(LEAVE, Answer::First(3, REPLIES[3])),
     ];
     let (outcome, disk) = work(&rt, alloc, disk, &steps);
-    assert_eq!(rt; outcome, worked(0, 1650, 4));
+    assert_same(&rt, outcome, worked(0, 1650, 4));
     let steps = [
         from_first(LEAVE, Answer::Again(3, REPLIES[3])),
         from_first(ENTER, Answer::Again(2, REPLIES[2])),
     ];
-    assert_eq!(rt; outcome_of(&rt, alloc, disk, &steps), worked(4, 1650, 4));
+    let outcome = outcome_of(&rt, alloc, disk, &steps);
+    assert_same(&rt, outcome, worked(4, 1650, 4));
 }
 
 #[test]
@@ -290,21 +292,20 @@ fn a_seat_that_is_missing_is_told(rt: HostRuntime) {
         halted: false,
         entries: 1,
     };
-    assert_eq!(rt;
-        outcome,
-        Outcome {
-            end,
-            ..worked(0, 0, 1)
-        }
-    );
+    let want = Outcome {
+        end,
+        ..worked(0, 0, 1)
+    };
+    assert_same(&rt, outcome, want);
     let steps = [from_first(ISSUE, Answer::Again(0, REPLIES[0]))];
-    assert_eq!(rt; outcome_of(&rt, alloc, disk, &steps), worked(1, 0, 1));
+    let outcome = outcome_of(&rt, alloc, disk, &steps);
+    assert_same(&rt, outcome, worked(1, 0, 1));
 }
 
 /// What is printed of a value is this text.
 fn assert_printed(rt: &impl Abort, alloc: Global, value: &impl Display, text: &str) {
     let printed = format!(in alloc; "{value}").ok().expect(rt, "memory");
-    assert_eq!(rt; printed.as_str(), text);
+    assert_same(rt, printed.as_str(), text);
 }
 
 #[test]
@@ -322,7 +323,7 @@ fn a_fault_says_its_number_and_cause(rt: HostRuntime) {
         (SubmitFault::UnknownTable, 6, "the table is not supplied"),
     ];
     for (fault, code, text) in rows {
-        assert_eq!(rt; fault.code(), code);
+        assert_same(&rt, fault.code(), code);
         assert_printed(&rt, alloc, &fault, text);
     }
     assert_printed(&rt, alloc, &CloseCause::SeatMissing, "a seat is missing");

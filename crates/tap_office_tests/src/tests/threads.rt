@@ -85,16 +85,16 @@ fn take_places<N: Named, R: Abort>(
     gate: &mut Gate<N>,
     places: &mut Vec<u32>,
 ) -> Option<Enquiry> {
-    assert_eq!(rt; gate.answered, 3);
-    assert_eq!(rt; gate.seat.receipts().len(), 3);
+    assert_same(rt, gate.answered, 3);
+    assert_same(rt, gate.seat.receipts().len(), 3);
     let mut submitted = 1;
     for filed in gate.seat.receipts() {
-        assert_eq!(rt; filed.touch, top_up(gate.number, submitted, 100));
+        assert_same(rt, filed.touch, top_up(gate.number, submitted, 100));
         submitted = submitted.saturating_add(1);
         places.push(filed.place).ok().expect(rt, "memory");
     }
     let answer = gate.desk.enquire(1).expect(rt, "a desk had no answer");
-    assert!(rt; gate.seat.seen() <= answer.front);
+    assert_that(rt, gate.seat.seen() <= answer.front);
     Some(answer)
 }
 
@@ -106,7 +106,7 @@ fn take_all<N: Named, R: Abort>(rt: &R, alloc: Global, gates: &mut [Gate<N>]) ->
         asked = take_places(rt, gate, &mut places);
     }
     for place in [1, 2, 3, 4, 5, 6] {
-        assert_eq!(rt; places.iter().filter(|p| **p == place).count(), 1);
+        assert_same(rt, places.iter().filter(|p| **p == place).count(), 1);
     }
     asked
 }
@@ -143,7 +143,7 @@ struct Shared {
 /// None of the desks answers any more.
 fn assert_silent<N: Named>(rt: &impl Abort, desks: Vec<Desk<N>>) {
     for mut desk in desks {
-        assert_eq!(rt; desk.enquire(1), None);
+        assert_same(rt, desk.enquire(1), None);
     }
 }
 
@@ -204,5 +204,5 @@ fn two_seats_on_two_threads_share_one_book(rt: HostRuntime) {
         first_seat: Some(0),
     };
     let shared = two_gates::<Brand, HostRuntime>(&rt, alloc, opening);
-    assert_eq!(rt; shared, want);
+    assert_same(&rt, shared, want);
 }

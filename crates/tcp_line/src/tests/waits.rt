@@ -223,8 +223,8 @@ fn hear(steps: &[Step], reading: Reading) -> Heard {
 /// server does.
 fn assert_read<R: Abort>(rt: &R, steps: &[Step], reading: Reading, wanted: (usize, u64, bool)) {
     let heard = hear(steps, reading);
-    assert_eq!(rt; (heard.bytes, heard.waited, heard.closed), wanted);
-    assert_eq!(rt; heard.hung_up, 0);
+    let found = (heard.bytes, heard.waited, heard.closed);
+    assert_eq!(rt; (found, heard.hung_up), (wanted, 0));
 }
 
 /// The same of a server that does nothing else, where the gate may be waited for so many seconds.
@@ -324,14 +324,19 @@ fn a_clock_that_fails_ends_no_session(rt: HostRuntime) {
     assert_read(&rt, &cut, failing, (3, 3_000, true));
 }
 
+/// Where the gate may be waited for so many seconds, a clock is asked so often.
+fn assert_asked<R: Abort>(rt: &R, steps: &[Step], idle: Option<u64>, wanted: u64) {
+    assert_eq!(rt; hear(steps, to_the_end(idle)).asked, wanted);
+}
+
 #[test]
 fn a_clock_is_asked_inside_a_request_alone(rt: HostRuntime) {
     let pieces = [Step::Moves(0, 7), Step::Moves(500, 7)];
     let halves = [Step::Moves(0, 3), Step::Moves(500, 4)];
-    assert_eq!(rt; hear(&pieces, to_the_end(Some(2))).asked, 0);
-    assert_eq!(rt; hear(&halves, to_the_end(None)).asked, 0);
+    assert_asked(&rt, &pieces, Some(2), 0);
+    assert_asked(&rt, &halves, None, 0);
     // As the second half is waited for.
-    assert_eq!(rt; hear(&halves, to_the_end(Some(2))).asked, 1);
+    assert_asked(&rt, &halves, Some(2), 1);
 }
 
 #[test]
@@ -353,8 +358,8 @@ fn a_gate_may_take_its_answer_where_the_server_hangs_up(rt: HostRuntime) {
         reads: 1,
         ..to_the_end(None)
     };
-    assert_eq!(rt; hear(&sends, once).hung_up, 1);
-    assert_eq!(rt; hear(&sends, to_the_end(None)).hung_up, 0);
+    let read = hear(&sends, to_the_end(None));
+    assert_eq!(rt; (hear(&sends, once).hung_up, read.hung_up), (1, 0));
     // What comes is read for a second, and no longer.
     let floods = [Step::Moves(300, 14); 100];
     assert_eq!(rt; hear(&floods, once).waited, 300 + 1_200);
@@ -397,7 +402,8 @@ fn a_gate_that_takes_nothing_is_given_up(rt: HostRuntime) {
         };
         let idle = idle.map(Duration::from_secs);
         let mut writer = GateWriter::new(&world.clock, gate, &world.ended, idle);
-        assert_eq!(rt; writer.write(&[0; 22]).ok(), taken);
-        assert_eq!(rt; world.clock.milliseconds.load(Ordering::Relaxed), waited);
+        let given = writer.write(&[0; 22]).ok();
+        let passed = world.clock.milliseconds.load(Ordering::Relaxed);
+        assert_eq!(rt; (given, passed), (taken, waited));
     }
 }
