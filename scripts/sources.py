@@ -1,8 +1,9 @@
 """What the scripts read in the sources: the functions of a text, the wrong bodies of a crate, and on what one rests.
 
 docs/proofs/tried.md has a row for each wrong body that was tried and refused outside the gate, with a digest of what
-that rests on: the toolchain, the wrong body's text, the crate's `src/`, `specs/` and `proofs/`, and of each library of
-the repository below it what a caller sees: `specs/`, and `src/` without bodies and comments. Tests don't count.
+that rests on: the toolchain's logic, the wrong body's text, the crate's `src/`, `specs/` and `proofs/`, and of each
+library of the repository below it what a caller sees: `specs/`, and `src/` without bodies and comments. Tests don't
+count.
 """
 import functools
 import hashlib
@@ -19,8 +20,8 @@ TRIED = """\
 # Wrong bodies that were tried outside the gate
 
 `scripts/wrong-bodies` writes this page. A row is a wrong body of a crate's `wrong-bodies/` that the checker refused,
-with a digest of what was tried: the toolchain, the wrong body, the crate's code, definitions and proofs, and the
-contracts of the libraries below it. `scripts/check-proofs` says which rows no longer fit, and
+with a digest of what was tried: the toolchain's logic, the wrong body, the crate's code, definitions and proofs, and
+the contracts of the libraries below it. `scripts/check-proofs` says which rows no longer fit, and
 `scripts/wrong-bodies --changed` tries those.
 """
 
@@ -85,14 +86,14 @@ def caller_sees(text):
 
 
 @functools.cache
-def toolchain():
-    """The line by which the toolchain names itself."""
-    return subprocess.run(["rt", "version"], capture_output=True, check=True, text=True).stdout
+def logic():
+    """The logic of the toolchain, from the line by which it names itself. Kits of one logic aren't told apart."""
+    return subprocess.run(["rt", "version"], capture_output=True, check=True, text=True).stdout.partition(" ")[2]
 
 
 def digests(top, name):
     """The digest of each wrong body in the crate's wrong-bodies/."""
-    rests = hashlib.sha256(toolchain().encode())
+    rests = hashlib.sha256(logic().encode())
     crate = top / "crates" / name
     for text in texts(crate, ("src", "specs", "proofs")):
         rests.update(text.encode())

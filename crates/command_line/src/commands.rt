@@ -12,10 +12,10 @@ use std::alloc::{AllocError, Global};
 /// The program's name in its help, whatever file it is started from.
 const NAME: &str = "bovtrila";
 
-/// What stands behind the name for `--version`: the program's version, and below it the line of the
-/// toolchain that proved it, as `rt version` prints it.
+/// What stands behind the name for `--version`: the program's version, and below it the toolchain
+/// that proved it, by the logic that `rt version` names. Kits of one logic differ by their letter.
 const VERSION: &str = "1.0.0
-proved by rattle-kit-13f logic dac8208d650f15bf";
+proved by Rattle, logic dac8208d650f15bf";
 
 /// What the program does.
 const ABOUT: &str = "Answers the touches of Oyster pay as you go";

@@ -210,7 +210,7 @@ fn the_version_names_the_toolchain_that_proved_it(rt: HostRuntime) -> Result<(),
     assert_same(
         &rt,
         text.as_str(),
-        "bovtrila 1.0.0\nproved by rattle-kit-13f logic dac8208d650f15bf\n",
+        "bovtrila 1.0.0\nproved by Rattle, logic dac8208d650f15bf\n",
     );
     Ok(())
 }
