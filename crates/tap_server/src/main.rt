@@ -3,32 +3,17 @@
 //! stated function of what is read.
 #![tactic(auto)]
 
-ghost use Rattle.command_line.specs.Arguments.{IsWithin};
-
-mod audit;
-mod balances;
-mod behind;
-mod detail;
-mod fault;
-mod history;
-mod migrate;
-mod notes;
-mod refusal;
 mod server;
 mod standard;
-mod tables;
 
-use crate::audit::verify_journal;
-use crate::balances::tell_balances;
-use crate::fault::CommandFault;
-use crate::history::tell_history;
-use crate::migrate::migrate_journal;
-use crate::notes::check_file;
 use crate::server::serve_gates;
 use crate::standard::standard_files;
-use crate::tables::{first_table, schedule_of};
 use command_line::{Arguments, arguments_of, refuse_bytes};
-use line_replay::{RunFault, replay_text};
+use file_commands::{
+    CommandFault, check_file, migrate_journal, replay_input, tell_balances, tell_history,
+    verify_journal,
+};
+use line_replay::RunFault;
 use std::fs::File;
 use std::net::{Net, TcpListener, TcpStream};
 use std::process::ExitCode;
@@ -37,9 +22,6 @@ use std::sync::Wait;
 use std::thread::Threads;
 use std::time::Clock;
 use std::{env, io};
-
-/// How many reads a command makes of its input at most.
-const TURNS: u32 = 1_000_000;
 
 fn main(rt: HostRuntime) -> io::Result<ExitCode> {
     match run(&rt) {
@@ -89,23 +71,6 @@ fn words<R: AllocGlobal + Env>(rt: &R) -> Result<Vec<String>, CommandFault> {
         Err(error) if error.kind() == io::ErrorKind::OutOfMemory => Err(RunFault::Memory.into()),
         Err(_) => Err(CommandFault::Line(refuse_bytes(rt.alloc())?)),
     }
-}
-
-/// Replays standard input to standard output, by the fare table in a file or the example table, and
-/// by further tables. The tables are looked at before any input is read.
-fn replay_input<R: AllocGlobal + Files + Input + Print>(
-    rt: &R,
-    table: Option<&str>,
-    revisions: &[&str],
-    cards: u32,
-) -> Result<ExitCode, CommandFault>
-    requires { IsWithin 100_000 cards }
-{
-    let schedule = schedule_of(rt, first_table(rt, table)?, revisions)?;
-    let mut reader = rt.reader();
-    let mut writer = io::writer(rt);
-    replay_text(rt.alloc(), schedule, cards, &mut reader, &mut writer, TURNS)?;
-    Ok(ExitCode::SUCCESS)
 }
 
 /// Tells why a command wasn't done, and answers the status: that of `clap` for a command line, else 1.

@@ -3,14 +3,15 @@
 ghost use Rattle.tap_office.specs.Name.{IsNameOf};
 ghost use Rattle.tap_office.specs.Opening.{opened_of};
 ghost use Rattle.command_line.specs.Arguments.{IsServeAllowed};
+ghost use Rattle.std.specs.Prelude.{◌≡◌};
+ghost use Rattle.tap_server.specs.Serve.{serve_fault};
 
-use crate::behind::{slots_behind, tell_behind};
-use crate::detail::Detail;
-use crate::fault::CommandFault;
-use crate::refusal::{journal_fault, listen_fault};
-use crate::tables::{first_table, schedule_of};
 use command_line::Serve;
-use gate_service::{Notices, TcpLines, make_posts, serve_office};
+use file_commands::{
+    CommandFault, Detail, first_table, journal_fault, listen_fault, schedule_of, slots_behind,
+    tell_behind,
+};
+use gate_service::{Notices, ServeFault, TcpLines, make_posts, serve_office};
 use line_replay::RunFault;
 use std::alloc::Global;
 use std::fs::File;
@@ -27,7 +28,7 @@ use std::thread::Threads;
 use std::time::{Clock, Duration};
 use tap_disk::{Disk, FileDisk};
 use tap_journal::{Journal, JournalFault};
-use tap_office::{Desk, Named, Office, Opening, Seat};
+use tap_office::{CloseCause, Desk, Named, Office, Opening, Seat};
 use tcp_line::TcpLine;
 
 /// Opens the office of a journal, which is made where its file is empty, serves gates until all lines
@@ -135,6 +136,49 @@ fn serve_listener<
     asked: &Serve<'_>,
 ) -> Result<bool, CommandFault> {
     let alloc = rt.alloc();
+    let listening = listening_line(alloc, listener)?;
+    let mut output = output_of(alloc, io::writer(rt))?;
+    let served = serve_lines(
+        rt,
+        office,
+        seats,
+        desks,
+        listener,
+        capacity,
+        asked,
+        &listening,
+        &mut output,
+    );
+    match served {
+        Ok(halted) => Ok(halted),
+        Err(fault) => Err(fault_of(fault)),
+    }
+}
+
+/// Serves an office to the lines of a listener, and writes the report. It answers whether the
+/// journal's disk has failed.
+fn serve_lines<
+    N: Named + Send + Sync,
+    D: Disk + Drop + Send,
+    R: AllocGlobal
+        + Net<Listener = TcpListener, Stream = TcpStream>
+        + Clock
+        + Threads
+        + Wait
+        + Sync
+        + Eprint,
+    W: Write,
+>(
+    rt: &R,
+    office: Office<N, D>,
+    seats: Vec<Seat<N>>,
+    desks: Vec<Desk<N>>,
+    listener: &TcpListener,
+    capacity: u32,
+    asked: &Serve<'_>,
+    listening: &str,
+    output: &mut W,
+) -> Result<bool, ServeFault> {
     let told = AtomicBool::new(false);
     let lines = TcpLines {
         ended: AtomicBool::new(false),
@@ -147,19 +191,21 @@ fn serve_listener<
     };
     let watch = Notices::new(rt, ends, asked.lines, capacity, office.opened());
     let line = TcpLine::new(rt, listener, &told, &lines.ended, idle_of(asked));
-    let posts = make_posts(alloc, &line, seats, desks)?;
-    let listening = listening_line(alloc, listener)?;
-    let mut output = output_of(alloc, io::writer(rt))?;
+    let posts = make_posts(rt.alloc(), &line, seats, desks)?;
     let connections = connections_of(asked);
-    Ok(serve_office(
-        rt,
-        office,
-        &watch,
-        posts,
-        &listening,
-        &mut output,
-        connections,
-    )?)
+    serve_office(rt, office, &watch, posts, listening, output, connections)
+}
+
+/// The command's fault where serving has failed: for want of memory and a failed write it is the run's.
+fn fault_of(fault: ServeFault) -> CommandFault
+    ensures { result ≡ serve_fault fault }
+{
+    match fault {
+        ServeFault::Memory => CommandFault::Run(RunFault::Memory),
+        ServeFault::Write => CommandFault::Run(RunFault::Write),
+        ServeFault::Close(CloseCause::SeatMissing) => CommandFault::SeatMissing,
+        ServeFault::Close(CloseCause::Mismatch) => CommandFault::Mismatch,
+    }
 }
 
 /// The status of a server that has ended: 1 where the journal's disk has failed.

@@ -1,5 +1,0 @@
-//! The tests of command_line, in a crate of their own.
-#![tactic(auto)]
-
-#[cfg(test)]
-mod tests;

@@ -1,0 +1,5 @@
+//! The tests of command_line and table_notes, in a crate of their own: a module for each.
+#![tactic(auto)]
+
+#[cfg(test)]
+mod tests;

@@ -1,7 +1,0 @@
--- What `migrate` writes on standard output (docs/OPERATING.md, "migrate"; this project's choice).
-use Rattle.std.specs.Prelude.{ℕ, List, codes}
-use Rattle.gate_service.specs.Report.{told}
-
--- a journal was carried over with so many touches
-abbrev pub migrated_line : ℕ → List ℕ
-migrated_line touches = told (codes "migrated ") touches (codes "\n")
