@@ -1,6 +1,6 @@
 //! A module for each library, of its public names alone.
 
-mod fare_schedule;
-mod fare_table;
-mod money_time;
-mod oyster_account;
+mod of_fare_schedule;
+mod of_fare_table;
+mod of_money_time;
+mod of_oyster_account;

@@ -1,4 +1,4 @@
 //! A module for each library, of its public names alone.
 
-mod command_line;
-mod table_notes;
+mod of_command_line;
+mod of_table_notes;

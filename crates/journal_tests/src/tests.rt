@@ -1,6 +1,6 @@
 //! A module for each library, of its public names alone.
 
-mod journal_audit;
-mod journal_balances;
-mod journal_history;
-mod tap_journal;
+mod of_journal_audit;
+mod of_journal_balances;
+mod of_journal_history;
+mod of_tap_journal;

@@ -1,4 +1,4 @@
 //! A module for each library, of its public names alone.
 
-mod tap_desk;
-mod tap_office;
+mod of_tap_desk;
+mod of_tap_office;

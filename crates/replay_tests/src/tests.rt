@@ -1,6 +1,6 @@
 //! A module for each library, of its public names alone.
 
-mod gate_session;
-mod line_replay;
-mod reply_book;
-mod table_check;
+mod of_gate_session;
+mod of_line_replay;
+mod of_reply_book;
+mod of_table_check;

@@ -1,0 +1,13 @@
+use Rattle.std.proofs.Common.{Some}
+use Rattle.tap_office.specs.Opening.{opened_of}
+use Rattle.office_tests.proofs.tests.of_tap_office.steps.try_work.Given as goal
+
+abbrev pub ghosts-work_through-N-Named : goal.ghosts-work_through-N-Named
+ghosts-work_through-N-Named g a = record { opened = opened_of a.opening }
+
+abbrev pub ghosts-work_through-N-Ledger : goal.ghosts-work_through-N-Ledger
+ghosts-work_through-N-Ledger g a = record { name = a.opening.receipts; parts = a.opening.seats }
+
+abbrev pub ghosts-work_through-N-StoryName : goal.ghosts-work_through-N-StoryName
+ghosts-work_through-N-StoryName g a =
+    record { story = a.opening.story; table = Some (a.opening.tables, a.opening.header.cards) }
