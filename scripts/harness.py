@@ -16,6 +16,8 @@ import wire
 TOP = pathlib.Path(__file__).resolve().parent.parent
 CRATES = TOP / "crates"
 PROGRAM = CRATES / "tap_server" / "out" / "tap_server"
+# The program of replay and check alone.
+TRIAL = CRATES / "table_trial" / "out" / "table_trial"
 EXAMPLE = TOP / "docs" / "example.toml"
 # The example table with two other prices, for revisions.
 REVISED = TOP / "docs" / "vectors-revised.toml"
@@ -50,9 +52,9 @@ def run(words, given=b"", **options):
     return status, out, fault_of(err)
 
 
-def run_whole(words, given=b"", **options):
+def run_whole(words, given=b"", program=PROGRAM, **options):
     """Runs the program: its status, its output, and all that stands on standard error."""
-    words = [os.fsencode(word) for word in (PROGRAM, *words)]
+    words = [os.fsencode(word) for word in (program, *words)]
     done = subprocess.run(words, input=given, capture_output=True, timeout=TIME, **options)
     return done.returncode, done.stdout, done.stderr.decode()
 

@@ -2,7 +2,7 @@
 
 ghost use Rattle.std.specs.Prelude.{◌≡◌, ◌≤◌, IfOk, IfSome};
 ghost use Rattle.clap.specs.Values.{kind_of};
-ghost use Rattle.clap.specs.declared.error.kind.ErrorKind.TheVariants.{InvalidValue};
+ghost use Rattle.clap.specs.declared.error.kind.ErrorKind.TheVariants.{InvalidSubcommand, InvalidValue};
 ghost use Rattle.command_line.specs.Arguments.{IsAllowed, IsServeAllowed, IsWithin};
 
 use crate::balances::{Balances, balances_asked};
@@ -120,6 +120,10 @@ const NOT_A_COUNT: &str =
 /// The text of Rust's `clap` for this.
 const NOT_UTF8: &str = "invalid UTF-8 was detected in one or more arguments";
 
+/// What is said where the program at hand has the commands over fare tables alone.
+const NOT_HERE: &str =
+    "this program has replay and check alone; scripts/bovtrila builds the one with all commands";
+
 /// What the words of a command line ask for; the program's own name is the first of them.
 ///
 /// The error says that help or the version was asked for, or what is wrong: no command or an
@@ -164,8 +168,15 @@ pub fn refuse_bytes(alloc: Global) -> Result<Error, Error>
     Ok(command(alloc)?.error(ErrorKind::InvalidValue, NOT_UTF8)?)
 }
 
-/// What the matches ask for. `None` where a number isn't written in decimal digits, or where a seal or
-/// a day is none.
+/// The refusal of a command that the program at hand doesn't have, though `tap_server` has it.
+pub fn refuse_command(alloc: Global) -> Result<Error, Error>
+    ensures { IfOk result (λ error. kind_of error ≡ InvalidSubcommand) }
+{
+    Ok(command(alloc)?.error(ErrorKind::InvalidSubcommand, NOT_HERE)?)
+}
+
+/// What the matches ask for. `None` where a number isn't written in decimal digits, or where a seal
+/// or a day is none.
 fn asked<'a>(alloc: Global, matches: &ArgMatches<'a>) -> Result<Option<Arguments<'a>>, AllocError>
     ensures { IfOk result (λ asked. IfSome asked IsAllowed) }
 {
@@ -258,8 +269,8 @@ fn serve_asked<'a>(matches: &ArgMatches<'a>, revisions: Vec<&'a str>) -> Option<
     }))
 }
 
-/// The number that an option has which may be left out. `None` where it is given and isn't from 1 to
-/// this limit.
+/// The number that an option has which may be left out. `None` where it is given and isn't from 1
+/// to this limit.
 pub(crate) fn number_given(matches: &ArgMatches<'_>, name: &str, limit: u32) -> Option<Option<u32>>
     ensures { IfSome result (λ given. IfSome given (IsWithin limit)) }
 {

@@ -36,8 +36,8 @@ pub struct History<'a> {
     pub format: HistoryFormat,
 }
 
-/// The history that the matches of its command ask for. `None` where the card's number isn't written
-/// in decimal digits, or where the day is no date.
+/// The history that the matches of its command ask for. `None` where the card's number isn't
+/// written in decimal digits, or where the day is no date.
 pub(crate) fn history_asked<'a>(
     matches: &ArgMatches<'a>,
     revisions: Vec<&'a str>,

@@ -9,7 +9,9 @@ mod commands;
 mod history;
 mod seal;
 
-pub use arguments::{Arguments, Migrate, Serve, Verify, arguments_of, refuse_bytes};
+pub use arguments::{
+    Arguments, Migrate, Serve, Verify, arguments_of, refuse_bytes, refuse_command,
+};
 pub use balances::Balances;
 pub use history::{History, HistoryFormat};
 pub use seal::Seal;

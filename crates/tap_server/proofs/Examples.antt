@@ -1,6 +1,6 @@
 -- Worked examples, computed by the definitions: lines of docs/OPERATING.md, "Faults".
 use Rattle.std.proofs.Common.{◌≡◌, refl, Some, codes}
-use Rattle.file_commands.specs.Told.{told_fault}
+use Rattle.journal_commands.specs.Told.{told_fault}
 use Rattle.gate_service.specs.declared.fault.ServeFault.TheVariants as serves
 use Rattle.tap_office.specs.declared.fault.CloseCause.TheVariants as closes
 use Rattle.tap_server.specs.Serve.{serve_fault}

@@ -7,11 +7,8 @@ ghost use Rattle.std.specs.Prelude.{◌≡◌};
 ghost use Rattle.tap_server.specs.Serve.{serve_fault};
 
 use command_line::Serve;
-use file_commands::{
-    CommandFault, Detail, first_table, journal_fault, listen_fault, schedule_of, slots_behind,
-    tell_behind,
-};
 use gate_service::{Notices, ServeFault, TcpLines, make_posts, serve_office};
+use journal_commands::{CommandFault, journal_fault, listen_fault, slots_behind, tell_behind};
 use line_replay::RunFault;
 use std::alloc::Global;
 use std::fs::File;
@@ -26,14 +23,15 @@ use std::sync::Wait;
 use std::sync::atomic::AtomicBool;
 use std::thread::Threads;
 use std::time::{Clock, Duration};
+use table_commands::{Detail, first_table, schedule_of};
 use tap_disk::{Disk, FileDisk};
 use tap_journal::{Journal, JournalFault};
 use tap_office::{CloseCause, Desk, Named, Office, Opening, Seat};
 use tcp_line::TcpLine;
 
-/// Opens the office of a journal, which is made where its file is empty, serves gates until all lines
-/// are done, closes the office and writes the report. The tables are looked at before the journal,
-/// and open slots behind its end are told of.
+/// Opens the office of a journal, which is made where its file is empty, serves gates until all
+/// lines are done, closes the office and writes the report. The tables are looked at before the
+/// journal, and open slots behind its end are told of.
 pub(crate) fn serve_gates<
     R: AllocGlobal
         + Files<File = File>
@@ -59,8 +57,8 @@ pub(crate) fn serve_gates<
     serve_opening::<Brand, FileDisk, R>(rt, opening, asked)
 }
 
-/// The disk of the journal's file, with a journal of no touches, for the first table of this digest,
-/// where the file is empty.
+/// The disk of the journal's file, with a journal of no touches, for the first table of this
+/// digest, where the file is empty.
 fn journal_disk<R: AllocGlobal + Files<File = File>>(
     rt: &R,
     digest: &[u8; 32],
@@ -196,13 +194,14 @@ fn serve_lines<
     serve_office(rt, office, &watch, posts, listening, output, connections)
 }
 
-/// The command's fault where serving has failed: for want of memory and a failed write it is the run's.
+/// The command's fault where serving has failed: for want of memory and a failed write it is the
+/// run's.
 fn fault_of(fault: ServeFault) -> CommandFault
     ensures { result ≡ serve_fault fault }
 {
     match fault {
-        ServeFault::Memory => CommandFault::Run(RunFault::Memory),
-        ServeFault::Write => CommandFault::Run(RunFault::Write),
+        ServeFault::Memory => RunFault::Memory.into(),
+        ServeFault::Write => RunFault::Write.into(),
         ServeFault::Close(CloseCause::SeatMissing) => CommandFault::SeatMissing,
         ServeFault::Close(CloseCause::Mismatch) => CommandFault::Mismatch,
     }
@@ -224,8 +223,8 @@ fn idle_of(asked: &Serve<'_>) -> Option<Duration> {
         .map(|seconds| Duration::from_secs(u64::from(seconds)))
 }
 
-/// How many connections each line serves: as many as come where no number is asked for. No line uses
-/// 2^64 up.
+/// How many connections each line serves: as many as come where no number is asked for. No line
+/// uses 2^64 up.
 fn connections_of(asked: &Serve<'_>) -> u64 {
     match asked.connections {
         Some(number) => u64::from(number),

@@ -7,8 +7,8 @@ use std::rt::Files;
 /// The highest number of a standard descriptor: that of standard error.
 const HIGHEST: i32 = 2;
 
-/// Takes those of the descriptors 0 to 2 that are closed, for as long as the answer lives: each then
-/// reads as empty, and what is written to it is lost.
+/// Takes those of the descriptors 0 to 2 that are closed, for as long as the answer lives: each
+/// then reads as empty, and what is written to it is lost.
 ///
 /// A program that was started with standard error closed would else be given its number for a
 /// connection, and a notice would go to a gate. Where /dev/null isn't there, they stay closed.

@@ -2,7 +2,7 @@
 mod journals;
 
 use clap::error::ErrorKind;
-use command_line::{arguments_of, refuse_bytes};
+use command_line::{arguments_of, refuse_bytes, refuse_command};
 use std::alloc::Global;
 use std::fmt::Debug;
 use std::process::Abort;
@@ -401,5 +401,11 @@ fn a_seal_is_asked_for_once_and_whole(rt: HostRuntime) {
 #[test]
 fn a_word_that_is_no_text_is_a_wrong_command_line(rt: HostRuntime) -> Result<(), Fail> {
     assert_eq!(rt; refuse_bytes(rt.alloc())?.exit_code(), 2);
+    Ok(())
+}
+
+#[test]
+fn a_command_that_the_program_has_not_is_a_wrong_command_line(rt: HostRuntime) -> Result<(), Fail> {
+    assert_eq!(rt; refuse_command(rt.alloc())?.exit_code(), 2);
     Ok(())
 }

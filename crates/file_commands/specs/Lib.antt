@@ -1,6 +1,0 @@
-pub mod Migrated
-pub mod Command
-pub mod Journals
-pub mod Told
-pub mod Detail
-pub mod Refusal

@@ -1,0 +1,4 @@
+pub mod Migrated
+pub mod Command
+pub mod Journals
+pub mod Told

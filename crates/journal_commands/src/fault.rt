@@ -1,0 +1,179 @@
+//! Why a command didn't do what it was asked for, and what is told of it on standard error.
+
+ghost use Rattle.std.specs.Prelude.{◌≡◌};
+ghost use Rattle.line_replay.specs.declared.fault.RunFault.TheVariants.{Memory};
+ghost use Rattle.table_commands.specs.declared.fault.TrialFault.TheVariants.{Run};
+ghost use Rattle.journal_commands.specs.declared.fault.CommandFault.TheVariants.{Journal, Migrate, Trial};
+ghost use Rattle.journal_commands.specs.Command.{audit_fault};
+ghost use Rattle.journal_commands.specs.Journals.{history_fault, balances_fault};
+ghost use Rattle.journal_commands.specs.Told.{told_fault};
+
+use clap::Error as LineError;
+use journal_audit::{AuditFault, SealFault};
+use journal_balances::BalancesFault;
+use journal_history::HistoryFault;
+use line_replay::RunFault;
+use std::alloc::AllocError;
+use std::process::ExitCode;
+use std::{fmt, io};
+use table_commands::{Detail, TrialFault, tell_fault};
+use tap_journal::{JournalFault, MigrateCause};
+use thiserror::Error;
+
+/// Why a command wasn't done.
+#[derive(Debug, Drop, Error)]
+pub enum CommandFault {
+    /// The command line asks for nothing that the program does, a file or a table isn't had, or the
+    /// run ended early.
+    Trial(TrialFault),
+    /// The journal can't be made or opened.
+    Journal(JournalFault),
+    /// The journal can't be carried over to the new file.
+    Migrate(MigrateCause),
+    /// The journal isn't the one that was sealed.
+    Seal(SealFault),
+    /// The journal has fewer touches than balances were asked for behind: it has so many.
+    Place(u32),
+    /// What was paid in on the card of this number, less what it was charged, isn't its balance. No
+    /// run shows it.
+    Balance(u32),
+    /// The address can't be listened on.
+    Listen(Detail),
+    /// Not as many seats came back to the closing as were made. No run shows it.
+    SeatMissing,
+    /// A receipt doesn't stand at its place. No run shows it.
+    Mismatch,
+}
+
+/// Prints the line that standard error gets of the fault, without its line feed. It is written by
+/// hand, since the derive doesn't state what it prints.
+impl fmt::Display for CommandFault {
+    ghost output = { told_fault };
+
+    fn fmt<W: fmt::Write>(&self, f: &mut fmt::Formatter<W>) -> fmt::Result {
+        match self {
+            CommandFault::Trial(fault) => write!(f, "{fault}"),
+            CommandFault::Journal(fault) => write!(f, "fault journal {fault}"),
+            CommandFault::Migrate(cause) => write!(f, "fault migrate {cause}"),
+            CommandFault::Seal(fault) => write!(f, "fault seal {fault}"),
+            CommandFault::Place(touches) => write!(f, "fault place {touches}"),
+            CommandFault::Balance(card) => write!(f, "fault balance {card}"),
+            CommandFault::Listen(_) => f.write_str("fault listen"),
+            CommandFault::SeatMissing => f.write_str("fault close 1 SeatMissing"),
+            CommandFault::Mismatch => f.write_str("fault close 2 Mismatch"),
+        }
+    }
+}
+
+impl CommandFault {
+    /// The line that stands behind the fault's, where there is one.
+    pub fn detail(&self) -> Option<&str> {
+        match self {
+            CommandFault::Trial(fault) => fault.detail(),
+            CommandFault::Listen(detail) => detail.line(),
+            _ => None,
+        }
+    }
+}
+
+/// Tells standard error why a command wasn't done, and answers the status: that of `clap` for a
+/// command line, else 1. Help and the version go to standard output. The error is that of the
+/// writing.
+pub fn tell_command_fault<R: Print + Eprint>(rt: &R, fault: CommandFault) -> io::Result<ExitCode> {
+    match fault {
+        CommandFault::Trial(fault) => tell_fault(rt, fault),
+        fault => {
+            rt.eprintln(&fault)?;
+            if let Some(detail) = fault.detail() {
+                rt.eprintln(detail)?;
+            }
+            Ok(ExitCode::from(1))
+        }
+    }
+}
+
+impl From<TrialFault> for CommandFault {
+    ghost from_gives = { λ given fault. fault ≡ Trial given };
+
+    fn from(fault: TrialFault) -> CommandFault {
+        CommandFault::Trial(fault)
+    }
+}
+
+impl From<RunFault> for CommandFault {
+    ghost from_gives = { λ given fault. fault ≡ Trial (Run given) };
+
+    fn from(fault: RunFault) -> CommandFault {
+        CommandFault::Trial(TrialFault::Run(fault))
+    }
+}
+
+impl From<AllocError> for CommandFault {
+    ghost from_gives = { λ _ fault. fault ≡ Trial (Run Memory) };
+
+    fn from(_error: AllocError) -> CommandFault {
+        RunFault::Memory.into()
+    }
+}
+
+impl From<JournalFault> for CommandFault {
+    ghost from_gives = { λ given fault. fault ≡ Journal given };
+
+    fn from(fault: JournalFault) -> CommandFault {
+        CommandFault::Journal(fault)
+    }
+}
+
+impl From<MigrateCause> for CommandFault {
+    ghost from_gives = { λ given fault. fault ≡ Migrate given };
+
+    fn from(cause: MigrateCause) -> CommandFault {
+        CommandFault::Migrate(cause)
+    }
+}
+
+impl From<AuditFault> for CommandFault {
+    ghost from_gives = { λ given fault. fault ≡ audit_fault given };
+
+    fn from(fault: AuditFault) -> CommandFault {
+        match fault {
+            AuditFault::Memory => RunFault::Memory.into(),
+            AuditFault::Write => RunFault::Write.into(),
+            AuditFault::Journal(fault) => CommandFault::Journal(fault),
+            AuditFault::Seal(fault) => CommandFault::Seal(fault),
+        }
+    }
+}
+
+impl From<HistoryFault> for CommandFault {
+    ghost from_gives = { λ given fault. fault ≡ history_fault given };
+
+    fn from(fault: HistoryFault) -> CommandFault {
+        match fault {
+            HistoryFault::Memory => RunFault::Memory.into(),
+            HistoryFault::Write => RunFault::Write.into(),
+            HistoryFault::Journal(fault) => CommandFault::Journal(fault),
+        }
+    }
+}
+
+impl From<BalancesFault> for CommandFault {
+    ghost from_gives = { λ given fault. fault ≡ balances_fault given };
+
+    fn from(fault: BalancesFault) -> CommandFault {
+        match fault {
+            BalancesFault::Memory => RunFault::Memory.into(),
+            BalancesFault::Write => RunFault::Write.into(),
+            BalancesFault::Journal(fault) => CommandFault::Journal(fault),
+            BalancesFault::Place(touches) => CommandFault::Place(touches),
+            BalancesFault::Balance(card) => CommandFault::Balance(card),
+        }
+    }
+}
+
+/// A command line for which there was no memory is a fault of the run.
+impl From<LineError> for CommandFault {
+    fn from(error: LineError) -> CommandFault {
+        CommandFault::Trial(error.into())
+    }
+}

@@ -1,0 +1,21 @@
+//! The commands that read a journal to its end and then are done: `migrate`, `verify`, `history`
+//! and `balances`. What each writes is proved in the library that writes it. Here it is proved what
+//! is asked of those libraries, and in which words the fault of any command is told
+//! (`CommandFault`).
+#![tactic(auto)]
+
+mod audit;
+mod balances;
+mod behind;
+mod fault;
+mod history;
+mod migrate;
+mod refusal;
+
+pub use audit::verify_journal;
+pub use balances::tell_balances;
+pub use behind::{slots_behind, tell_behind};
+pub use fault::{CommandFault, tell_command_fault};
+pub use history::tell_history;
+pub use migrate::migrate_journal;
+pub use refusal::{journal_fault, listen_fault};

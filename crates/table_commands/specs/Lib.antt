@@ -1,0 +1,4 @@
+pub mod Trial
+pub mod Told
+pub mod Detail
+pub mod Refusal

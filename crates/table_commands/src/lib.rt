@@ -1,0 +1,20 @@
+//! The commands that fare tables are tried by: `replay` and `check`, with the tables in the files
+//! that they name. What each writes is proved in the library that writes it. Here it is proved
+//! which table a file gives, and in which words a fault is told (`TrialFault`).
+#![tactic(auto)]
+
+mod detail;
+mod fault;
+mod notes;
+mod refusal;
+mod replay;
+mod tables;
+mod words;
+
+pub use detail::Detail;
+pub use fault::{TrialFault, tell_fault};
+pub use notes::check_file;
+pub use refusal::{Refusal, kind_refusal, open_refusal};
+pub use replay::replay_input;
+pub use tables::{bytes_in, first_table, schedule_of, tables_in};
+pub use words::words_of;

@@ -1,0 +1,34 @@
+//! The program that fare tables are tried by: `replay` and `check` of `tap_server`, without a
+//! journal and without a server. It reads its command line, calls what is proved, and prints.
+#![tactic(auto)]
+
+use command_line::{Arguments, arguments_of, refuse_command};
+use std::io;
+use std::process::ExitCode;
+use std::rt::{Env, Files};
+use table_commands::{TrialFault, check_file, replay_input, tell_fault, words_of};
+
+fn main(rt: HostRuntime) -> io::Result<ExitCode> {
+    match run(&rt) {
+        Ok(status) => Ok(status),
+        Err(fault) => tell_fault(&rt, fault),
+    }
+}
+
+/// Does what the command line asks for, and answers the status. The commands over a journal are
+/// refused.
+fn run<R: AllocGlobal + Env + Files + Input + Print + Eprint>(
+    rt: &R,
+) -> Result<ExitCode, TrialFault> {
+    let words = words_of(rt)?;
+    let words: Vec<&str> = words.iter().map(|word| word.as_str()).collect(rt.alloc())?;
+    match arguments_of(rt.alloc(), words.as_slice())? {
+        Arguments::Replay {
+            table,
+            cards,
+            revisions,
+        } => replay_input(rt, table, revisions.as_slice(), cards),
+        Arguments::Check { table } => check_file(rt, table),
+        _ => Err(TrialFault::Line(refuse_command(rt.alloc())?)),
+    }
+}
