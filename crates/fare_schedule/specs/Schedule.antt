@@ -6,15 +6,20 @@ use Rattle.std.specs.List.{last_or}
 use Rattle.std.specs.Option.{ForSome}
 use Rattle.money_time.specs.declared.stamp.Stamp.{Stamp}
 use Rattle.fare_table.specs.Fare.{Content, stamp_of, stamp_with}
-use Rattle.fare_table.specs.Fares.{content_of}
+use Rattle.fare_table.specs.Fares.{content_of, digest_of}
 use Rattle.fare_table.specs.declared.fares.Fares.{Fares}
 use Rattle.fare_schedule.specs.InForce.{Revision, in_force}
+use Rattle.fare_schedule.specs.Places.{table_at}
 use Rattle.fare_schedule.specs.Dated.{revisions_by}
 use Rattle.fare_schedule.specs.declared.schedule.Schedule.{Schedule}
 
 -- the tables, the first one in front
 abbrev pub tables_of : Schedule → List Fares
 tables_of schedule = schedule.first ∷ schedule.supplied.items
+
+-- the digest of the table at a place, 0 for the first; where no table stands there, the first's
+abbrev pub digest_at : Schedule → ℕ → List ℕ
+digest_at schedule place = digest_of (table_at schedule.first schedule.supplied.items place)
 
 -- the revisions, oldest first
 abbrev pub revisions_of : Schedule → List Revision

@@ -1,11 +1,12 @@
 //! Fare tables, and the fare days from which they count.
 
-ghost use Rattle.std.specs.Prelude.{◌≡◌, ◌≤◌, ◌∷◌, Ok, length};
+ghost use Rattle.std.specs.Prelude.{◌≡◌, ◌≤◌, ◌<◌, ◌∷◌, Ok, length};
 ghost use Rattle.std.specs.List.{All};
 ghost use Rattle.std.proofs.Props.{props};
 ghost use Rattle.fare_schedule.specs.Places.{AreDistinct, place_from, table_at};
 ghost use Rattle.fare_schedule.specs.Dated.{ArePlaced, AreAscending, revision_of};
 ghost use Rattle.fare_schedule.specs.Stations.{HaveSameStations, have_same_stations};
+ghost use Rattle.fare_schedule.specs.declared.schedule.TheConstants.{TABLE_LIMIT};
 
 use crate::dated::{Dated, count_on, place_on};
 use crate::digest::place_among;
@@ -21,7 +22,7 @@ pub const TABLE_LIMIT: usize = 16;
 /// Fare tables with the fare days from which they count. The first counts from the beginning.
 ///
 /// In each value the days ascend, each place is that of a table, no two tables have the same
-/// digest, and all have the stations of the first.
+/// digest, all have the stations of the first, and they are no more than `TABLE_LIMIT`.
 pub struct Schedule {
     first: Fares,
     supplied: Vec<Fares>,
@@ -32,6 +33,7 @@ pub struct Schedule {
     ghost placed: { ArePlaced (length supplied.items) dated.items },
     ghost distinct: { AreDistinct (first ∷ supplied.items) },
     ghost stations: { All (HaveSameStations first) supplied.items } by { Prim.hlevel props },
+    ghost limited: { length supplied.items < TABLE_LIMIT },
 }
 
 /// By hand, so that it is one call wherever one is dropped.
@@ -47,14 +49,14 @@ impl Drop for Schedule {
 }
 
 impl Schedule {
-    ghost use Rattle.std.specs.Prelude.{◌≢◌, ◌<◌, ◌<ℤ◌, ◌≤ℤ◌, ◌++◌, ◌↔◌, ℕ, ℤ, [], None, Some};
+    ghost use Rattle.std.specs.Prelude.{◌≢◌, ◌<ℤ◌, ◌≤ℤ◌, ◌++◌, ◌↔◌, ℕ, ℤ, [], None, Some};
     ghost use Rattle.std.specs.Prelude.{is_some, IsTrue, IsOk, IsSome, IfOk, IfErr, IfSome, OnOk};
-    ghost use Rattle.std.specs.Prelude.{OnErr, true, vec_capacity};
+    ghost use Rattle.std.specs.Prelude.{OnErr, true, false, vec_capacity};
     ghost use Rattle.fare_table.specs.Fares.{digest_of};
     ghost use Rattle.fare_schedule.specs.InForce.{table_of};
     ghost use Rattle.fare_schedule.specs.Schedule.{tables_of, revisions_of, table_on, stamp_by};
-    ghost use Rattle.fare_schedule.specs.Schedule.{last_day_of, IsAfterLast, HasRoom};
-    ghost use Rattle.fare_schedule.specs.Supply.{supply_fault};
+    ghost use Rattle.fare_schedule.specs.Schedule.{digest_at, last_day_of, IsAfterLast, HasRoom};
+    ghost use Rattle.fare_schedule.specs.Supply.{is_full, supply_fault};
 
     /// A schedule of one table and no revision. It never fails: it takes no memory.
     pub fn new(alloc: Global, first: Fares) -> Result<Schedule, AllocError>
@@ -75,6 +77,30 @@ impl Schedule {
         ensures { result ≡ is_some (table_of (tables_of self.now) digest.now) }
     {
         self.place_of(digest).is_some()
+    }
+
+    /// The place of the table of a digest, 0 for the first. By it `digest_at` gives the digest
+    /// back.
+    pub fn place(&self, digest: &[u8; 32]) -> Option<u8>
+        ensures found { is_some result ≡ is_some (table_of (tables_of self.now) digest.now) }
+        ensures back { IfSome result (λ place. digest_at self.now place ≡ digest.now) }
+    {
+        match self.place_of(digest) {
+            Some(place) => Some(place as u8),
+            None => None,
+        }
+    }
+
+    /// The digest of the table at a place, 0 for the first. It is that of the first, too, where no
+    /// table stands at the place.
+    pub fn digest_at(&self, place: u8) -> [u8; 32]
+        ensures { result ≡ digest_at self.now place }
+    {
+        // The first table stands before those that were supplied.
+        match self.supplied.get((place as usize).wrapping_sub(1)) {
+            Some(table) => table.digest(),
+            None => self.first.digest(),
+        }
     }
 
     /// The table in force on a fare day: that of the last revision whose day is at most it, and
@@ -102,11 +128,16 @@ impl Schedule {
 
     /// The stamp of a moment, by the first table's zone and the holidays of the table in force on
     /// the fare day. It never fails: it takes no memory.
+    #[inline(always)]
     pub fn stamp(&self, moment: u32) -> Result<Stamp, AllocError>
         ensures { result ≡ Ok (stamp_by self.now moment) }
     {
         let by_first = self.first.stamp(moment)?;
-        Ok(self.on(by_first.day).restamp(by_first))
+        let place = place_on(self.dated.as_slice(), self.recent, by_first.day);
+        if place == 0 {
+            return Ok(by_first);
+        }
+        Ok(self.table(place).restamp(by_first))
     }
 
     /// The day of the last revision.
@@ -201,6 +232,7 @@ impl Schedule {
     /// Puts a table of another digest and of the same stations behind the others.
     fn push_table(&mut self, table: Fares)
         requires room { length self.old.supplied.items < vec_capacity self.old.supplied }
+        requires few { is_full self.old ≡ false }
         requires other { table_of (tables_of self.old) (digest_of table) ≡ None }
         requires stations { have_same_stations self.old.first table ≡ true }
         ensures tables { tables_of self.new ≡ tables_of self.old ++ table ∷ [] }

@@ -5,6 +5,8 @@
 
 mod date;
 mod fault;
+mod span;
+mod spans;
 mod stamp;
 mod zone;
 

@@ -283,6 +283,8 @@ module _ (day : ℤ) (scheme revised : Scheme) (agree : AgreeBefore day scheme r
   account-agrees acts account before is = record {
     issued = is.issued;
     paid = is.paid;
+    charged = is.charged ∙ sym (ap (travel_charge revised) (travel-agrees acts before)
+        ∙ charge-agrees (travel scheme acts) before);
     travels =
         subst (λ taps. IsTravelOf revised taps account.travels) (sym (travel-agrees acts before))
         (travels-agree (travel scheme acts) account.travels before is.travels);

@@ -4,7 +4,7 @@ ghost use Rattle.std.specs.Prelude.{◌≤◌};
 ghost use Rattle.oyster_account.specs.declared.card.TheConstants.{HISTORY_LIMIT};
 
 use crate::account::{Account, Judgement};
-use crate::reply::{CardState, CardView, Reply};
+use crate::reply::{CardView, Reply};
 use crate::touch::Touch;
 use fare_schedule::Schedule;
 use money_time::Stamp;
@@ -26,8 +26,6 @@ pub struct Card {
     count: u32,
     /// What its accepted acts come to.
     account: Account,
-    /// What is seen of the card since the last touch.
-    view: CardView,
     ghost limited: { count ≤ HISTORY_LIMIT },
 }
 
@@ -51,10 +49,6 @@ impl Card {
         Card {
             count: 0,
             account: Account::none(),
-            view: CardView {
-                state: CardState::Vacant,
-                balance: 0,
-            },
         }
     }
 
@@ -115,7 +109,7 @@ impl Card {
         // A touch out that ends a leg takes nothing from the card.
         ensures refund { result.0.verdict ≡ acceptance_code Exited → pos 0 ≤ℤ result.0.change }
     {
-        let judgement = self.account.judge(schedule, touch.act, stamp);
+        let judgement = self.account.judge(schedule, &touch.act, stamp);
         (judgement.reply, judgement.view)
     }
 
@@ -124,6 +118,7 @@ impl Card {
     ///
     /// The conditions are those of `judge`, and that there is room: `ready` makes it. It takes no
     /// memory.
+    #[inline(always)]
     pub fn apply(&mut self, schedule: &Schedule, touch: &Touch, stamp: &Stamp) -> Reply
         requires few { touches_in self.old < HISTORY_LIMIT }
         requires of_card { is_revision touch.now.act ≡ false }
@@ -152,10 +147,8 @@ impl Card {
         // A touch out that ends a leg takes nothing from the card.
         ensures refund { result.verdict ≡ acceptance_code Exited → pos 0 ≤ℤ result.change }
     {
-        let Judgement { reply, view } = self.account.judge(schedule, touch.act, stamp);
-        self.account.take(schedule, touch.act, stamp, &reply);
+        let Judgement { reply, view: _ } = self.account.apply(schedule, &touch.act, stamp);
         self.count += 1;
-        self.view = view;
         reply
     }
 
@@ -165,7 +158,6 @@ impl Card {
             → StandsFor scheme number history self.now
             → result ≡ view scheme (accepted number history) }
     {
-        // The last touch was judged with it.
-        self.view
+        self.account.view()
     }
 }

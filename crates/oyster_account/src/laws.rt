@@ -1,11 +1,19 @@
-//! Laws of the account's definitions, each the contract of a call that does nothing.
+//! Laws of the account's definitions, each the contract of a call that does nothing, but for
+//! `revise_keeps`: that one is the contract of a call that revises a schedule.
 
+ghost use Rattle.std.specs.Prelude.{◌≡◌, ◌∷◌, ◌++◌, [], IsSome};
+ghost use Rattle.fare_schedule.specs.InForce.{table_of};
+ghost use Rattle.fare_schedule.specs.Schedule.{tables_of, revisions_of, HasRoom, IsAfterLast};
+ghost use Rattle.oyster_account.specs.Agreement.{AgreeBefore};
 ghost use Rattle.oyster_account.specs.Classes.{IsInOneClass, IsIncompleteMissing};
 ghost use Rattle.oyster_account.specs.Rows.{AreJourneysRows};
 ghost use Rattle.oyster_account.specs.Laws.{NeverGoesBack, AreOthersNothing};
 ghost use Rattle.oyster_account.specs.Laws.{DoRevisionsKeep, IsViewKept, IsRevisionAhead};
 ghost use Rattle.oyster_account.specs.Laws.{AreTablesPriced, DoLegsTakeNothing};
-ghost use Rattle.oyster_account.specs.Laws.{DoRefusalsChangeNothing};
+ghost use Rattle.oyster_account.specs.Laws.{DoRefusalsChangeNothing, IsKeptBy};
+ghost use Rattle.oyster_account.specs.Scheme.{scheme_of};
+
+use fare_schedule::Schedule;
 
 /// Each touch in or out begins a leg, ends one, or misses its other end: as an unfinished touch in,
 /// a late touch out or an unstarted one. It is in exactly one of these classes.
@@ -69,3 +77,19 @@ pub fn legs_take_nothing()
 pub fn refusals_change_nothing()
     ensures { DoRefusalsChangeNothing }
 {}
+
+/// Revises a schedule, as [`Schedule::revise`] does and under its conditions. Where no accepted
+/// touch of a history has reached the day, each card stands for the same touches with the same
+/// replies after it, and is seen as before. The days before keep their terms, and the moments of
+/// these days their stamps.
+pub fn revise_keeps(schedule: &mut Schedule, digest: &[u8; 32], day: i32)
+    requires known { IsSome (table_of (tables_of schedule.old) digest.now) }
+    requires room { HasRoom schedule.old }
+    requires later { IsAfterLast schedule.old day }
+    ensures revisions { revisions_of schedule.new
+        ≡ revisions_of schedule.old ++ record { digest = digest.now; day = day } ∷ [] }
+    ensures days { AgreeBefore day (scheme_of schedule.old) (scheme_of schedule.new) }
+    ensures cards { IsKeptBy (scheme_of schedule.old) (scheme_of schedule.new) day }
+{
+    schedule.revise(digest, day);
+}

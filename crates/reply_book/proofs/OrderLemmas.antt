@@ -110,7 +110,7 @@ abbrev pub IsOrderly : Tables → List Judged → Type 0
 IsOrderly tables history = (card : ℕ) → IsInOrder (travel (scheme_after tables history) (accepted card history))
 
 -- the accepted acts of a card with one entry more
-accepted-push : (card : ℕ) (history : List Judged) (judged : Judged)
+pub accepted-push : (card : ℕ) (history : List Judged) (judged : Judged)
     → accepted card (history ++ judged ∷ []) ≡ cond (counts_for card judged)
     (judged.touch.act ∷ accepted card history) (accepted card history)
 accepted-push card history judged =

@@ -6,6 +6,7 @@
 mod book;
 mod entry;
 mod fault;
+mod kept;
 mod laws;
 mod reached;
 mod replay;

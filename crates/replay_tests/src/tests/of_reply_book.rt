@@ -132,7 +132,7 @@ const fn first_touches() -> [Touch; 4] {
 /// What stays where memory is refused: how many entries there are, the last, and a card's view.
 fn seen_of(book: &Book, card: u32) -> (u32, Option<Entry>, CardView) {
     let count = book.len();
-    let last = book.entry(count.saturating_sub(1)).copied();
+    let last = book.entry(count.saturating_sub(1));
     (count, last, book.view(card))
 }
 
@@ -173,7 +173,7 @@ fn assert_added(rt: &impl Abort, book: &Book, place: u32, row: Row) {
         reply,
         seat: 3,
     };
-    assert_same(rt, book.entry(place).copied(), Some(entry));
+    assert_same(rt, book.entry(place), Some(entry));
     assert_same(rt, book.find(&touch), Found::First(place, reply));
     assert_same_at(rt, book.view(touch.card), view, touch);
 }
@@ -192,7 +192,7 @@ fn add_one(rt: &impl Abort, book: &mut Book, row: Row)
     assert_that(rt, book.has_room(&touch));
     let foretold = book.judge(&touch, &stamp);
     assert_same_at(rt, foretold, (reply, view), touch);
-    let added = book.add(touch, &stamp, 3);
+    let added = book.add(&touch, &stamp, 3);
     assert_same_at(rt, added, (place, reply), touch);
     assert_added(rt, book, place, row);
 }
@@ -291,7 +291,7 @@ fn assert_entries(rt: &impl Abort, book: &Book, rows: &[Row; 4]) {
             reply: row.1,
             seat: 0,
         };
-        let kept = book.entry(place as u32).copied();
+        let kept = book.entry(place as u32);
         assert_same_at(rt, kept, Some(entry), place);
     }
 }

@@ -20,4 +20,5 @@ invariant_of-self c =
           (All-nil (λ (d : Dated). d.place ≤ last))));
       distinct = old.distinct;
       stations = old.stations;
+      limited = old.limited;
     }

@@ -1,4 +1,6 @@
-use Rattle.std.proofs.Common.{◌≡◌, [], ◌∷◌, ◌++◌, List, sym, subst, ap, ◌∙◌, arith, length, length-append, rules}
+use Rattle.std.proofs.Common.{◌≡◌, ◌<◌, [], ◌∷◌, ◌++◌, List, sym, subst, ap, ◌∙◌, arith, length, length-append, rules}
+use Rattle.std.proofs.Common.{suc, not, nat_lt, false}
+use Rattle.std.proofs.lemmas.Bool.Decides.{nat_tests}
 use Rattle.std.specs.List.{All}
 use Rattle.std.proofs.lemmas.List.Elements.{All-append, All-cons, All-nil}
 use Rattle.fare_table.specs.declared.fares.Fares.{Fares}
@@ -10,7 +12,13 @@ use Rattle.fare_schedule.proofs.DatedLemmas.{revisions-kept}
 use Rattle.fare_schedule.proofs.InForceLemmas.{on-supplied}
 use Rattle.fare_schedule.proofs.PlaceLemmas.{distinct-push}
 use Rattle.fare_schedule.proofs.StationLemmas.{same-by-test}
+use Rattle.fare_schedule.specs.declared.schedule.TheConstants.{TABLE_LIMIT}
 use Rattle.fare_schedule.proofs.schedule.Schedule.push_table.Goals as goal
+
+-- Where there aren't as many as a schedule may have, there may be one more.
+few-more : (supplied : List Fares) → not (nat_lt (suc (length supplied)) TABLE_LIMIT) ≡ false
+    → suc (length supplied) < TABLE_LIMIT
+few-more supplied few = grind (arith, nat_tests, few)
 
 -- The table has another digest than each, and the stations of the first, as the test says.
 pub invariant_of-self : goal.invariant_of-self
@@ -33,6 +41,12 @@ invariant_of-self c =
           (All-append (HaveSameStations old.first) old.supplied.items (c.args.table ∷ []) old.stations
           (All-cons (HaveSameStations old.first) c.args.table []
           (same-by-test old.first c.args.table c.requires.stations) (All-nil (HaveSameStations old.first))));
+      limited = omega (
+        arith,
+        few-more old.supplied.items c.requires.few,
+        ap length items,
+        length-append old.supplied.items (c.args.table ∷ []),
+      );
     }
 
 -- No revision names the further table.
