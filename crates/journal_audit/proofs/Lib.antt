@@ -1,3 +1,4 @@
 mod Examples
 pub mod NameLemmas
 pub mod AuditLemmas
+pub mod LawLemmas

@@ -3,3 +3,4 @@ pub mod Touches
 pub mod Lines
 pub mod Texts
 pub mod Audit
+pub mod Laws

@@ -5,6 +5,7 @@
 
 mod audit;
 mod fault;
+mod laws;
 mod lines;
 mod names;
 mod report;
@@ -13,5 +14,6 @@ mod touches;
 
 pub use audit::audit_journal;
 pub use fault::{AuditFault, SealFault};
+pub use laws::a_journal_has_no_cause_alone;
 pub use seal::{Seal, Sealed};
 pub use touches::{digest_of_first, enter_touches};

@@ -1,4 +1,4 @@
--- A balanced row says what the account of its card does.
+-- A row is balanced, and says what the account of its card does.
 use Rattle.std.proofs.Common.{◌≡◌, ℕ, zero, suc, ℤ, pos, ◌+◌, ◌≤◌, ◌-ℤ◌, Bool, true, false, cond, nat_lt, nat_le, List, [], ◌∷◌, ◌++◌, length, map, reverse, refl, sym, ap, subst, ◌∙◌, arith}
 use Rattle.std.specs.Prelude.{sum_by, filter, All}
 use Rattle.std.proofs.lemmas.Bool.Decides.{nat_tests}
@@ -17,14 +17,16 @@ use Rattle.oyster_account.specs.History.{accepted, counts_for}
 use Rattle.oyster_account.specs.Judge.{is_card}
 use Rattle.oyster_account.specs.Scheme.{Scheme}
 use Rattle.oyster_account.specs.Travel.{travel}
+use Rattle.reply_book.specs.Legal.{IsLegal}
 use Rattle.reply_book.specs.Tables.{Tables, scheme_after}
 use Rattle.reply_book.specs.View.{view_after, no_view}
 use Rattle.reply_book.proofs.NameLemmas.{joined}
 use Rattle.journal_balances.specs.declared.row.Row.{Row}
-use Rattle.journal_balances.specs.Sums.{sums_of, charge_in}
+use Rattle.journal_balances.specs.Sums.{sums_of, charge_in, left_in}
 use Rattle.journal_balances.specs.Rows.{is_issued, is_issued_in, row_of, first_rows, rows_of, IsBalanced}
 use Rattle.journal_balances.specs.Account.{IsByAccount}
 use Rattle.journal_balances.proofs.RowLemmas.{first_rows-issued, first_rows-vacant}
+use Rattle.journal_balances.proofs.HoldingLemmas.{legal-held}
 
 -- ---- what was paid in
 
@@ -94,6 +96,24 @@ pub record IsRowOf (tables : Tables) (cards : ℕ) (history : List Judged) (row 
 charge-left : (paid charge : ℕ) (charged : ℤ) → (pos paid -ℤ charged) ≡ (pos paid -ℤ pos charge) → charged ≡ pos charge
 charge-left paid charge charged is = omega (arith, ints, is)
 
+-- what is seen of it is by the acts of its card
+row-seen : (tables : Tables) (cards : ℕ) (history : List Judged) (row : Row) → IsRowOf tables cards history row
+    → row.view ≡ record {
+      state = state_of (travel (scheme_after tables history) (accepted row.card history));
+      balance = balance (scheme_after tables history) (accepted row.card history);
+    }
+row-seen tables cards history row own =
+    view-issued (scheme_after tables history) (accepted row.card history) row.view
+    (ap (λ (r : Row). r.view) own.is ∙ view-known tables cards history row.card own.known) own.issued
+
+-- after a legal history it is balanced
+row-balanced : (tables : Tables) (cards : ℕ) (history : List Judged) (row : Row) → IsLegal tables cards history
+    → IsRowOf tables cards history row → IsBalanced row
+row-balanced tables cards history row legal own =
+    ap (λ (r : Row). left_in r.sums) own.is
+    ∙ legal-held tables cards history legal row.card
+    ∙ sym (ap (λ (v : CardView). v.balance) (row-seen tables cards history row own))
+
 -- where it is balanced, it is by the account of its card
 row-account : (tables : Tables) (cards : ℕ) (history : List Judged) (row : Row) → IsRowOf tables cards history row
     → IsBalanced row → IsByAccount tables history row
@@ -102,8 +122,7 @@ row-account tables cards history row own balanced =
     let acts = accepted row.card history in
     let paid : row.sums.paid_in ≡ sum_by pence_paid acts =
     ap (λ (r : Row). r.sums.paid_in) own.is ∙ paid-in row.card history in
-    let seen = view-issued scheme acts row.view
-    (ap (λ (r : Row). r.view) own.is ∙ view-known tables cards history row.card own.known) own.issued in
+    let seen = row-seen tables cards history row own in
     let holds : row.view.balance ≡ balance scheme acts = ap (λ (v : CardView). v.balance) seen in
     record {
       paid_in = paid;
@@ -120,6 +139,19 @@ known-card cards count below =
     let above : nat_lt 0 (count + 1) ≡ true = grind (arith, nat_tests) in
     let within : nat_le (count + 1) cards ≡ true = grind (arith, nat_tests, below) in
     joined (nat_lt 0 (count + 1)) (nat_le (count + 1) cards) above within
+
+-- the row of the next card, where it was issued, is balanced
+pub next-balanced : (tables : Tables) (cards : ℕ) (history : List Judged) (count : ℕ) (row : Row)
+    → IsLegal tables cards history → suc count ≤ cards → row ≡ row_of tables cards history (count + 1)
+    → is_issued row ≡ true → IsBalanced row
+next-balanced tables cards history count row legal below is issued =
+    subst IsBalanced (sym is)
+    (row-balanced tables cards history (row_of tables cards history (count + 1)) legal
+    (record {
+      is = refl;
+      known = known-card cards count below;
+      issued = subst (λ (r : Row). is_issued r ≡ true) is issued;
+    }))
 
 -- one card more has a row, or none where it wasn't issued
 rows-more : (tables : Tables) (cards : ℕ) (history : List Judged) (count : ℕ) → suc count ≤ cards

@@ -13,7 +13,7 @@ use Rattle.journal_balances.specs.declared.row.Row.{Row}
 use Rattle.journal_balances.specs.declared.totals.Totals.{Totals}
 use Rattle.journal_balances.specs.Totals.{totals_of, AreTotalsBalanced}
 use Rattle.journal_balances.specs.Lines.{text_of_rows}
-use Rattle.journal_balances.specs.Rows.{rows_of, IsBalanced, IsFirstUnbalanced, HasRowFault}
+use Rattle.journal_balances.specs.Rows.{rows_of, IsBalanced}
 use Rattle.oyster_account.specs.declared.reply.Judged.{Judged}
 use Rattle.reply_book.specs.Legal.{book}
 use Rattle.reply_book.specs.Names.{AreNamedOnce}
@@ -43,9 +43,9 @@ refused-place tables at bytes format h touches (Place count) journal far =
     record { format = format; h = h; touches = touches; place = far.0; journal = journal; named = far.1; fewer = far.2; all = far.3 }
 refused-place tables at bytes format h touches (Balance card) journal far = absurd far
 
--- and that of entering the touches, or of a row after them
+-- and that of entering the touches
 pub refused-touches : (tables : Tables) (at : Option ℕ) (bytes : List ℕ) (h : Header) (touches : List Touch)
-    (fault : BalancesFault) → AreTouchesOf tables at bytes h touches → HasRefusedTouches tables h.cards touches fault
+    (fault : BalancesFault) → AreTouchesOf tables at bytes h touches → HasRefusedTouches tables touches fault
     → HasRefused tables at bytes fault
 refused-touches tables at bytes h touches Memory journal refused = tt
 refused-touches tables at bytes h touches Write journal refused = absurd refused
@@ -53,8 +53,7 @@ refused-touches tables at bytes h touches (Journal fault) journal (inl memory) =
 refused-touches tables at bytes h touches (Journal fault) journal (inr cause) =
     inr (inr (record { h = h; touches = touches; journal = journal; not_entered = cause }))
 refused-touches tables at bytes h touches (Place count) journal refused = absurd refused
-refused-touches tables at bytes h touches (Balance card) journal refused =
-    record { h = h; touches = touches; journal = journal; entered = refused.0; first = refused.1 }
+refused-touches tables at bytes h touches (Balance card) journal refused = absurd refused
 
 -- where bytes are refused nothing is written
 pub refused-nothing : (tables : Tables) (at : Option ℕ) (bytes : List ℕ) (fault : BalancesFault)
@@ -63,7 +62,7 @@ refused-nothing tables at bytes Memory refused = refl
 refused-nothing tables at bytes Write refused = absurd refused
 refused-nothing tables at bytes (Journal fault) refused = (refl, refused)
 refused-nothing tables at bytes (Place count) refused = (refl, refused)
-refused-nothing tables at bytes (Balance card) refused = (refl, refused)
+refused-nothing tables at bytes (Balance card) refused = absurd refused
 
 -- ---- the rows after the touches that were entered
 
@@ -76,19 +75,6 @@ rows-told tables own cards touches history rows same are once known is balanced 
       are = is ∙ ap (λ (t : Tables). rows_of t cards history) same ∙ ap (λ (h : List Judged). rows_of tables cards h) are;
       balanced = balanced;
     }
-
-pub rows-refused : (tables own : Tables) (cards : ℕ) (touches : List Touch) (history : List Judged) (fault : BalancesFault)
-    → own ≡ tables → history ≡ book tables cards touches → AreNamedOnce touches → AreKnown tables touches
-    → HasRowFault own cards history fault → HasRefusedTouches tables cards touches fault
-rows-refused tables own cards touches history Memory same are once known refused = tt
-rows-refused tables own cards touches history Write same are once known refused = absurd refused
-rows-refused tables own cards touches history (Journal fault) same are once known refused = absurd refused
-rows-refused tables own cards touches history (Place count) same are once known refused = absurd refused
-rows-refused tables own cards touches history (Balance card) same are once known refused = (
-  (once, known),
-  subst (λ (h : List Judged). IsFirstUnbalanced tables cards h card) are
-      (subst (λ (t : Tables). IsFirstUnbalanced t cards history card) same refused),
-)
 
 -- ---- the whole
 

@@ -1,15 +1,13 @@
 -- The sums of each card go on being those over its touches.
-use Rattle.std.proofs.Common.{◌≡◌, ℕ, zero, suc, ◌+◌, ◌-◌, ◌*◌, ◌<◌, ◌≤◌, Bool, true, false, not, cond, ◌&&◌, ◌==◌, inl, inr, List, [], ◌∷◌, ◌++◌, length, get_or, take, map, replicate, slice_set, refl, sym, ap, subst, ◌∙◌, arith, Some, None}
+use Rattle.std.proofs.Common.{◌≡◌, ℕ, zero, suc, ◌+◌, ◌-◌, ◌<◌, ◌≤◌, true, false, cond, ◌&&◌, ◌==◌, inl, inr, List, [], ◌∷◌, ◌++◌, length, get_or, take, replicate, slice_set, refl, sym, ap, subst, ◌∙◌, arith, Some, None}
 use Rattle.std.proofs.lemmas.Bool.{cases_eq}
 use Rattle.std.proofs.lemmas.Bool.Decides.{nat_tests}
 use Rattle.std.proofs.lemmas.Option.{slice_get_within, slice_get-get_or, get_or_from_slice_get, slice_get_read}
 use Rattle.std.proofs.lemmas.List.{map-append, get_or-set_same, get_or-set_other, length-set, append-nil, take_more}
 use Rattle.std.proofs.lemmas.List.Elements.{filter-append}
-use Rattle.std.proofs.lemmas.List.Sums.{sum_by_push, sum_by-cons, sum_by-set, sum_by_more, sum_by_more_le, get_or-le-sum_by}
+use Rattle.std.proofs.lemmas.List.Sums.{sum_by_push, sum_by-cons}
 use Rattle.std.specs.Prelude.{slice_get, sum_by, filter}
-use Rattle.oyster_account.specs.declared.touch.Touch.{Touch}
 use Rattle.oyster_account.specs.declared.reply.Judged.{Judged}
-use Rattle.oyster_account.specs.Touch.{is_of, is_revision}
 use Rattle.oyster_account.specs.History.{counts_for, is_accepted}
 use Rattle.oyster_account.specs.Balance.{pence_paid}
 use Rattle.reply_book.proofs.CardLemmas.{not-of}

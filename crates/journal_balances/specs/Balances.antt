@@ -16,7 +16,7 @@ use Rattle.journal_balances.specs.declared.fault.BalancesFault.{BalancesFault}
 use Rattle.journal_balances.specs.declared.fault.BalancesFault.TheVariants.{Memory, Write, Journal, Place, Balance}
 use Rattle.journal_balances.specs.declared.row.Row.{Row}
 use Rattle.journal_balances.specs.declared.totals.Totals.{Totals}
-use Rattle.journal_balances.specs.Rows.{rows_of, IsBalanced, IsFirstUnbalanced}
+use Rattle.journal_balances.specs.Rows.{rows_of, IsBalanced}
 use Rattle.journal_balances.specs.Account.{IsByAccount}
 use Rattle.journal_balances.specs.Totals.{totals_of, AreTotalsBalanced}
 use Rattle.journal_balances.specs.Lines.{text_of_rows}
@@ -90,15 +90,6 @@ pub record IsBehind (tables : Tables) (at : Option ℕ) (bytes : List ℕ) (coun
   pub fewer : length touches < place
   pub all : count ≡ length touches
 
--- the bytes are a journal whose touches before the place can be entered, and this is the first card that
--- doesn't hold what was paid in less what was charged
-pub record IsUnbalanced (tables : Tables) (at : Option ℕ) (bytes : List ℕ) (card : ℕ) : Type 0 where
-  pub h : Header
-  pub touches : List Touch
-  pub journal : AreTouchesOf tables at bytes h touches
-  pub entered : AreEntered (Some tables) touches
-  pub first : IsFirstUnbalanced tables h.cards (book tables h.cards touches) card
-
 -- there are fewer touches than stand before the place that is named: so many
 abbrev pub IsTooFar : Option ℕ → List Touch → BalancesFault → Type 0
 IsTooFar at touches Memory = ⊥
@@ -108,23 +99,23 @@ IsTooFar at touches (Place count) = (place : ℕ) × (at ≡ Some place) × (len
     × (count ≡ length touches)
 IsTooFar at touches (Balance card) = ⊥
 
--- there was no memory, a touch can't be entered, or a row after them isn't balanced
-abbrev pub HasRefusedTouches : Tables → ℕ → List Touch → BalancesFault → Type 0
-HasRefusedTouches tables cards touches Memory = Unit {0}
-HasRefusedTouches tables cards touches Write = ⊥
-HasRefusedTouches tables cards touches (Journal fault) = (fault ≡ journal.Memory)
+-- there was no memory, or a touch can't be entered; after touches that can each row is balanced
+abbrev pub HasRefusedTouches : Tables → List Touch → BalancesFault → Type 0
+HasRefusedTouches tables touches Memory = Unit {0}
+HasRefusedTouches tables touches Write = ⊥
+HasRefusedTouches tables touches (Journal fault) = (fault ≡ journal.Memory)
     ⊎ HasTouchCause tables touches fault
-HasRefusedTouches tables cards touches (Place count) = ⊥
-HasRefusedTouches tables cards touches (Balance card) = AreEntered (Some tables) touches
-    × IsFirstUnbalanced tables cards (book tables cards touches) card
+HasRefusedTouches tables touches (Place count) = ⊥
+HasRefusedTouches tables touches (Balance card) = ⊥
 
--- why these bytes are refused: the first cause, or there was no memory
+-- why these bytes are refused: the first cause, or there was no memory. No card is ever told that
+-- doesn't hold what was paid in less what was charged
 abbrev pub HasRefused : Tables → Option ℕ → List ℕ → BalancesFault → Type 0
 HasRefused tables at bytes Memory = Unit {0}
 HasRefused tables at bytes Write = ⊥
 HasRefused tables at bytes (Journal fault) = IsRefused tables at bytes fault
 HasRefused tables at bytes (Place count) = IsBehind tables at bytes count
-HasRefused tables at bytes (Balance card) = IsUnbalanced tables at bytes card
+HasRefused tables at bytes (Balance card) = ⊥
 
 -- what a fault leaves written: nothing, but where a write failed a beginning of the text
 abbrev pub HasEnded : Tables → Option ℕ → List ℕ → List ℕ → BalancesFault → Type 0
@@ -133,7 +124,7 @@ HasEnded tables at bytes text Write = (whole : List ℕ) × (totals : Totals)
     × AreBalances tables at bytes whole totals × IsBeginning text whole
 HasEnded tables at bytes text (Journal fault) = (text ≡ []) × IsRefused tables at bytes fault
 HasEnded tables at bytes text (Place count) = (text ≡ []) × IsBehind tables at bytes count
-HasEnded tables at bytes text (Balance card) = (text ≡ []) × IsUnbalanced tables at bytes card
+HasEnded tables at bytes text (Balance card) = ⊥
 
 -- where there was no fault, the text and the totals are the balances
 abbrev pub HasWritten : Tables → Option ℕ → List ℕ → List ℕ → Result Totals BalancesFault → Type 0

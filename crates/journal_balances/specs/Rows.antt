@@ -1,6 +1,6 @@
 -- The rows of the cards that were issued: what each holds, and what was paid in and charged (this
 -- project's choice).
-use Rattle.std.specs.Prelude.{◌≡◌, ◌≤◌, ℕ, ◌+◌, Bool, true, false, List, map, filter, sum_by, All}
+use Rattle.std.specs.Prelude.{◌≡◌, ◌≤◌, ℕ, Bool, true, false, List, map, filter, sum_by}
 use Rattle.std.specs.List.{range_with_len}
 use Rattle.oyster_account.specs.declared.card.TheConstants.{HISTORY_LIMIT}
 use Rattle.oyster_account.specs.declared.reply.CardState.{CardState}
@@ -8,8 +8,6 @@ use Rattle.oyster_account.specs.declared.reply.CardState.TheVariants.{Vacant, Ou
 use Rattle.oyster_account.specs.declared.reply.Judged.{Judged}
 use Rattle.reply_book.specs.Tables.{Tables}
 use Rattle.reply_book.specs.View.{view_after}
-use Rattle.journal_balances.specs.declared.fault.BalancesFault.{BalancesFault}
-use Rattle.journal_balances.specs.declared.fault.BalancesFault.TheVariants.{Memory, Write, Journal, Place, Balance}
 use Rattle.journal_balances.specs.declared.row.Row.{Row}
 use Rattle.journal_balances.specs.Sums.{sums_of, left_in, pence_moved, most_moved}
 
@@ -47,21 +45,3 @@ IsBalanced row = left_in row.sums ≡ row.view.balance
 -- all that the rows' cards moved is within what a longest history moves
 abbrev pub AreMeasuredRows : List Row → Type 0
 AreMeasuredRows rows = sum_by (λ row. pence_moved row.sums) rows ≤ most_moved HISTORY_LIMIT
-
--- the card with this number is the first that was issued and whose row isn't balanced
-pub record IsFirstUnbalanced (tables : Tables) (cards : ℕ) (history : List Judged) (card : ℕ)
-    : Type 0 where
-  pub before : ℕ
-  pub next : card ≡ before + 1
-  pub there : card ≤ cards
-  pub issued : is_issued (row_of tables cards history card) ≡ true
-  pub unbalanced : IsBalanced (row_of tables cards history card) → ⊥
-  pub balanced : All IsBalanced (first_rows tables cards history before)
-
--- there was no memory for the rows, or the card that is named is the first whose row isn't balanced
-abbrev pub HasRowFault : Tables → ℕ → List Judged → BalancesFault → Type 0
-HasRowFault tables cards history Memory = Unit {0}
-HasRowFault tables cards history Write = ⊥
-HasRowFault tables cards history (Journal fault) = ⊥
-HasRowFault tables cards history (Place count) = ⊥
-HasRowFault tables cards history (Balance card) = IsFirstUnbalanced tables cards history card

@@ -1,6 +1,6 @@
 -- What the accepted touches of a card paid in, took from it and gave back (docs/FARES.md, "Accepted and
 -- refused" and "Verdicts"; that a statement of a card has these sums is this project's choice).
-use Rattle.std.specs.Prelude.{◌≡◌, ◌≤◌, ℕ, suc, ◌+◌, ◌*◌, ◌^◌, ℤ, pos, negsuc, ◌-ℤ◌, List, length, filter, sum_by, slice_get, Some}
+use Rattle.std.specs.Prelude.{◌≡◌, ◌≤◌, ℕ, suc, ◌+◌, ◌*◌, ◌^◌, ℤ, pos, negsuc, ◌-ℤ◌, List, filter, sum_by, slice_get, Some}
 use Rattle.oyster_account.specs.declared.card.TheConstants.{HISTORY_LIMIT}
 use Rattle.oyster_account.specs.declared.touch.Act.{Act}
 use Rattle.oyster_account.specs.declared.touch.Act.TheVariants.{Enter, Leave, TopUp, Issue, Revise}

@@ -1,5 +1,5 @@
 -- The sums over the rows (this project's choice).
-use Rattle.std.specs.Prelude.{◌≡◌, ℕ, ℤ, pos, ◌+ℤ◌, ◌-ℤ◌, List, [], ◌∷◌, length, sum_by}
+use Rattle.std.specs.Prelude.{◌≡◌, ℤ, pos, ◌+ℤ◌, ◌-ℤ◌, List, [], ◌∷◌, length, sum_by}
 use Rattle.journal_balances.specs.declared.row.Row.{Row}
 use Rattle.journal_balances.specs.declared.sums.Sums.{Sums}
 use Rattle.journal_balances.specs.declared.totals.Totals.{Totals}

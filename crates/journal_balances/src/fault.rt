@@ -23,7 +23,8 @@ pub enum BalancesFault {
     /// The journal has fewer touches than were asked for: so many.
     #[error("the journal has {0} touches")]
     Place(u32),
-    /// What was paid in less what was charged isn't what the card with this number holds.
+    /// What was paid in less what was charged isn't what the card with this number holds. No call
+    /// of this library answers it.
     #[error("card {0} isn't balanced")]
     Balance(u32),
 }

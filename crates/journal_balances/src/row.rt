@@ -4,8 +4,9 @@ ghost use Rattle.std.specs.Prelude.{◌≡◌, ◌≤◌, ◌<◌, ◌+◌, ◌^
 ghost use Rattle.oyster_account.specs.declared.card.TheConstants.{HISTORY_LIMIT};
 ghost use Rattle.reply_book.specs.Book.{entries_of, cards_of, tables_of, Stands};
 ghost use Rattle.reply_book.specs.Legal.{history_of};
+ghost use Rattle.journal_balances.specs.declared.fault.BalancesFault.TheVariants.{Memory};
 ghost use Rattle.journal_balances.specs.Sums.{pence_moved, most_moved, AreMeasured, AreSumsOf};
-ghost use Rattle.journal_balances.specs.Rows.{is_issued, row_of, rows_of, IsBalanced, AreMeasuredRows, HasRowFault};
+ghost use Rattle.journal_balances.specs.Rows.{is_issued, row_of, rows_of, IsBalanced, AreMeasuredRows};
 
 use crate::fault::BalancesFault;
 use crate::sums::{Sums, sums_of};
@@ -45,8 +46,8 @@ impl Row {
     }
 }
 
-/// The rows of the cards of a book that were issued, by ascending number, each of them balanced.
-/// `Balance` comes with the first card whose row isn't.
+/// The rows of the cards of a book that were issued, by ascending number, each of them balanced. That is
+/// looked at, though the account's rules make it so: `Balance` never comes.
 pub(crate) fn rows_of(alloc: Global, cards: u32, book: &Book) -> Result<Vec<Row>, BalancesFault>
     requires stands { Stands book.now }
     requires cards { cards_of book.now ≡ cards }
@@ -55,8 +56,7 @@ pub(crate) fn rows_of(alloc: Global, cards: u32, book: &Book) -> Result<Vec<Row>
     ensures balanced { IfOk result (λ rows. All IsBalanced rows.items) }
     ensures measured { IfOk result (λ rows. AreMeasuredRows rows.items) }
     ensures few { IfOk result (λ rows. length rows.items ≤ cards) }
-    ensures fault { IfErr result (HasRowFault (tables_of book.now) cards
-        (history_of (entries_of book.now))) }
+    ensures fault { IfErr result (λ fault. fault ≡ Memory) }
 {
     let sums = sums_of(alloc, cards, book)?;
     rows_by(alloc, cards, book, &sums)
@@ -74,8 +74,7 @@ fn rows_by(alloc: Global, cards: u32, book: &Book, sums: &[Sums]) -> Result<Vec<
     ensures balanced { IfOk result (λ rows. All IsBalanced rows.items) }
     ensures measured { IfOk result (λ rows. AreMeasuredRows rows.items) }
     ensures few { IfOk result (λ rows. length rows.items ≤ cards) }
-    ensures fault { IfErr result (HasRowFault (tables_of book.now) cards
-        (history_of (entries_of book.now))) }
+    ensures fault { IfErr result (λ fault. fault ≡ Memory) }
 {
     let mut rows = Vec::new(alloc);
     for place in 0..cards {

@@ -105,7 +105,7 @@ pub(crate) fn sums_of(alloc: Global, cards: u32, book: &Book) -> Result<Vec<Sums
     let mut all = nothing_moved(alloc, cards)?;
     let mut place = 0;
     while let Some(entry) = book.entry(place) {
-        add_entry(&mut all, entry);
+        add_entry(&mut all, &entry);
         place += 1;
     }
     Ok(all)

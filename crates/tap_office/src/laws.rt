@@ -5,6 +5,7 @@ ghost use Rattle.reply_book.specs.Legal.{history_of};
 ghost use Rattle.tap_office.specs.Given.{IsLegalFor};
 ghost use Rattle.tap_office.specs.Keeper.{IsHaltedByDisk, IsLeft};
 ghost use Rattle.tap_office.specs.Rounds.{Round, AreRounds, IsKeptIn};
+ghost use Rattle.tap_office.specs.Files.{DoFilesDecide, DoSameFilesKeepReplies};
 
 use crate::keeper::Keeper;
 use crate::name::Named;
@@ -12,12 +13,23 @@ use tap_disk::Disk;
 
 /// Over any list of rounds, each of them an opening, commits and a crash: what a round finds has
 /// every touch that was released in an earlier one, in order and at its place. Where it was opened
-/// with the same first table, and given every table that these touches name, its book has each with
-/// the reply that it had there, whatever other tables it was given.
+/// with tables that say the same, the first one and each that these touches name, its book has each
+/// with the reply that it had there, whatever other tables it was given. Tables of the same files
+/// say the same: [`same_files_keep_replies`].
 pub fn rounds_keep_what_was_released()
     ensures { (h : Header) (rounds : List Round) → AreRounds h rounds
         → (i j : ℕ) (earlier later : Round) → i < j → slice_get rounds i ≡ Some earlier
         → slice_get rounds j ≡ Some later → IsKeptIn h earlier later }
+{}
+
+/// A round that was opened with the same first file as an earlier one, and was given the file of
+/// every table that its touches name, has each touch that was released in the earlier one with the
+/// reply that it had there, whatever other files there are and in whatever order. The tables of the
+/// two say the same then. No two of these files that differ have the same digest: that is what the
+/// law asks for, since a revision names its table by the digest alone.
+pub fn same_files_keep_replies()
+    ensures tables { DoFilesDecide }
+    ensures replies { DoSameFilesKeepReplies }
 {}
 
 /// What holds whenever the lock is free: the history is legal by the opening's tables, begins with

@@ -131,7 +131,7 @@ fn is_at_place(book: &Book, number: u16, filed: &Filed) -> bool
     ensures { IsTrue result ↔ IsAtPlace (entries_of book.now) number filed.now }
 {
     match book.entry(filed.place) {
-        Some(entry) => is_entry_of(entry, number, filed),
+        Some(entry) => is_entry_of(&entry, number, filed),
         None => false,
     }
 }

@@ -3,8 +3,10 @@
 mod crashes;
 mod desks;
 mod memory;
+mod migration;
 mod openings;
 mod revisions;
+mod rounds;
 mod steps;
 mod threads;
 

@@ -1,7 +1,7 @@
 use Rattle.reply_book.specs.Book.{entries_of, tables_of}
 use Rattle.reply_book.specs.Legal.{history_of}
 use Rattle.reply_book.specs.Tables.{tables_in}
-use Rattle.journal_balances.proofs.BalancesLemmas.{rows-told, rows-refused}
+use Rattle.journal_balances.proofs.BalancesLemmas.{rows-told}
 use Rattle.journal_balances.proofs.balances.rows_after.Goals as goal
 
 -- the rows are those after the touches
@@ -11,11 +11,3 @@ returns-in-Ok-clause-rows c =
     rows-told (tables_in c.args.schedule) (tables_of c.in_ok-book.book) c.args.cards c.args.touches.now
     (history_of (entries_of c.in_ok-book.book)) c.in-Ok.rows.items given.tables given.history given.once given.known
     c.in-Ok.ensures.rows c.in-Ok.ensures.balanced
-
--- a fault is that of the rows
-pub returns-clause-fault : goal.returns-clause-fault
-returns-clause-fault c =
-    let given = c.in_ok-book.ensures in
-    rows-refused (tables_in c.args.schedule) (tables_of c.in_ok-book.book) c.args.cards c.args.touches.now
-    (history_of (entries_of c.in_ok-book.book)) c.in-Err.fault given.tables given.history given.once given.known
-    c.in-Err.ensures.fault

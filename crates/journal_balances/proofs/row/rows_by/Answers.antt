@@ -1,11 +1,12 @@
-use Rattle.std.proofs.Common.{◌≡◌, ◌∙◌, ◌+◌, ◌++◌, ◌∷◌, [], ap, sym, arith}
+use Rattle.std.proofs.Common.{◌≡◌, ◌∙◌, suc, ◌+◌, ◌≤◌, ◌++◌, ◌∷◌, [], true, false, ap, sym, subst, arith}
 use Rattle.std.proofs.lemmas.List.{length-append}
 use Rattle.std.proofs.lemmas.List.Sums.{sum_by_push}
 use Rattle.reply_book.specs.Book.{entries_of, tables_of}
-use Rattle.reply_book.specs.Legal.{history_of}
+use Rattle.reply_book.specs.Legal.{history_of, IsLegal}
 use Rattle.journal_balances.specs.declared.row.Row.{Row}
 use Rattle.journal_balances.specs.Sums.{pence_moved}
-use Rattle.journal_balances.specs.Rows.{row_of}
+use Rattle.journal_balances.specs.Rows.{is_issued, row_of}
+use Rattle.journal_balances.proofs.AccountLemmas.{next-balanced}
 use Rattle.journal_balances.proofs.RowLemmas.{first_rows-issued, first_rows-vacant, balanced-more}
 use Rattle.journal_balances.proofs.row.rows_by.Goals.{then-is_issued+else-not-is_balanced+in_ok-push, else-is_issued}
 use Rattle.journal_balances.proofs.row.rows_by.Goals as goal
@@ -46,3 +47,21 @@ loop-place-preserved c =
             few = omega (arith, c.loop-place.invariant.few);
           })
     ]
+
+-- no row of a card that was issued isn't balanced
+pub returns-then-not-is_balanced-clause-fault : goal.returns-then-not-is_balanced-clause-fault
+returns-then-not-is_balanced-clause-fault c =
+    let tables = tables_of c.args.book.now in
+    let history = history_of (entries_of c.args.book.now) in
+    let row = c.row_at-row.result in
+    let is : row ≡ row_of tables c.args.cards history (c.loop-place.place + 1) =
+    c.row_at-row.ensures.row
+    ∙ ap (λ n. row_of tables n history (c.loop-place.place + 1)) c.requires.cards in
+    let legal : IsLegal tables c.args.cards history =
+    subst (λ n. IsLegal tables n history) c.requires.cards c.requires.stands.legal in
+    let issued : is_issued row ≡ true = sym c.is_issued.ensures ∙ c.if-is_issued.true in
+    let below : suc c.loop-place.place ≤ c.args.cards = omega arith in
+    let balanced = next-balanced tables c.args.cards history c.loop-place.place row legal below is issued in
+    let told : c.is_balanced.result ≡ true = c.is_balanced.ensures.1 balanced in
+    let refused : c.is_balanced.result ≡ false = c.if-not-is_balanced.true in
+    absurd cc

@@ -1,4 +1,4 @@
-use Rattle.std.proofs.Common.{◌≡◌, ◌∙◌, ◌<◌, ◌≤◌, length, List, Some, sym, ap, arith, subst, rules}
+use Rattle.std.proofs.Common.{◌≡◌, ◌∙◌, ◌<◌, length, List, Some, sym, arith, subst}
 use Rattle.std.specs.Prelude.{slice_get}
 use Rattle.std.proofs.lemmas.Option.{slice_get_within}
 use Rattle.reply_book.specs.declared.entry.Entry.{Entry}
@@ -20,18 +20,18 @@ loop-entry-init c = record {
 -- the places end
 pub loop-entry-smaller : goal.loop-entry-smaller
 loop-entry-smaller c =
-    let at : slice_get (entries_of c.args.book.now) c.loop-entry.place ≡ Some c.in-Some.entry.now = sym c.in-Some.ensures in
+    let at : slice_get (entries_of c.args.book.now) c.loop-entry.place ≡ Some c.in-Some.entry = sym c.in-Some.ensures in
     let within : c.loop-entry.place < length (entries_of c.args.book.now) =
-    slice_get_within (entries_of c.args.book.now) c.loop-entry.place c.in-Some.entry.now at in
+    slice_get_within (entries_of c.args.book.now) c.loop-entry.place c.in-Some.entry at in
     omega (arith, within)
 
 -- the sums have one touch more
 pub loop-entry-preserved : goal.loop-entry-preserved
 loop-entry-preserved c =
-    let at : slice_get (entries_of c.args.book.now) c.loop-entry.place ≡ Some c.in-Some.entry.now = sym c.in-Some.ensures in
+    let at : slice_get (entries_of c.args.book.now) c.loop-entry.place ≡ Some c.in-Some.entry = sym c.in-Some.ensures in
     let within : c.loop-entry.place < length (entries_of c.args.book.now) =
-    slice_get_within (entries_of c.args.book.now) c.loop-entry.place c.in-Some.entry.now at in
-    let more = history-more (entries_of c.args.book.now) c.loop-entry.place c.in-Some.entry.now at in
+    slice_get_within (entries_of c.args.book.now) c.loop-entry.place c.in-Some.entry at in
+    let more = history-more (entries_of c.args.book.now) c.loop-entry.place c.in-Some.entry at in
     record {
       within = omega (arith, within);
       cards = c.add_entry.ensures.cards ∙ c.loop-entry.invariant.cards;

@@ -1,4 +1,4 @@
-use Rattle.std.proofs.Common.{◌≡◌, ◌+◌, ◌≤◌, ◌^◌, pos, arith}
+use Rattle.std.proofs.Common.{pos, arith}
 use Rattle.oyster_account.specs.declared.reply.CardState.TheVariants.{Vacant}
 use Rattle.journal_balances.specs.declared.row.Row.{Row}
 use Rattle.journal_balances.proofs.RowLemmas.{moved-all, moved-room}
