@@ -1,44 +1,63 @@
 //! The command `verify`: a journal that is read alone, and what is told of it.
 
-ghost use Rattle.std.specs.Prelude.{◌≡◌, [], IfOk, IfSome};
+ghost use Rattle.std.specs.Prelude.{◌≡◌, ◌⊎◌, [], IfOk, IfErr, IfSome, OnOk, map, option_map};
+ghost use Rattle.std.specs.Process.{exit_status};
 ghost use Rattle.fare_schedule.specs.Schedule.{revisions_of};
+ghost use Rattle.reply_book.specs.Tables.{tables_in as tables_by};
+ghost use Rattle.journal_audit.specs.Audit.{IsSound};
 ghost use Rattle.journal_commands.specs.Command.{seal_asked};
+ghost use Rattle.journal_commands.specs.Verified.{AreTablesAsked, AreTablesRefused, IsUnread, HasVerified, HasEndedEarly};
 
 use crate::fault::CommandFault;
 use command_line::{Seal as AskedSeal, Verify};
 use fare_schedule::Schedule;
 use journal_audit::{Seal, Sealed, audit_journal};
-use std::io;
+use std::alloc::Global;
+use std::io::Write;
 use std::process::ExitCode;
-use std::rt::Files;
-use table_commands::{bytes_in, tables_in};
+use table_commands::{TrialFault, WholeFiles, tables_in};
 
 /// Writes what the journal in a file holds, by the fare tables that are named, where they are.
 ///
 /// The tables are looked at first, and then the journal's file. It is opened for reading alone, and
 /// isn't locked: a server may go on with it. It is read to its end before anything is written.
-pub fn verify_journal<R: AllocGlobal + Files + Print>(
-    rt: &R,
+pub fn verify_journal<F: WholeFiles, W: Write>(
+    alloc: Global,
+    files: &F,
     asked: &Verify<'_>,
-) -> Result<ExitCode, CommandFault> {
-    let schedule = tables_asked(rt, asked)?;
-    let bytes = bytes_in(rt, asked.journal)?;
+    writer: &mut W,
+) -> Result<ExitCode, CommandFault>
+    ensures ok { OnOk result (HasVerified (F.gave files.now) asked.now
+        (W.contents writer.old) (W.contents writer.new)
+        (λ tables bytes text. IsSound tables (seal_asked asked.now.seal) bytes text)) }
+    ensures status { IfOk result (λ status. exit_status status ≡ 0) }
+    ensures fault { IfErr result (λ fault.
+        (IsUnread (F.gave files.now) asked.now fault × (writer.new ≡ writer.old))
+        ⊎ HasEndedEarly (F.gave files.now) asked.now
+        (W.contents writer.old) (W.contents writer.new) fault) }
+{
+    let schedule = tables_asked(alloc, files, asked)?;
+    let bytes = files.bytes_in(alloc, asked.journal)?;
     let seal = seal_of(asked.seal);
-    let mut writer = io::writer(rt);
-    audit_journal(rt.alloc(), schedule, seal, bytes.as_slice(), &mut writer)?;
+    audit_journal(alloc, schedule, seal, &bytes, writer)?;
     Ok(ExitCode::SUCCESS)
 }
 
 /// The first table with the further ones, where tables are named.
-fn tables_asked<R: AllocGlobal + Files>(
-    rt: &R,
+fn tables_asked<F: WholeFiles>(
+    alloc: Global,
+    files: &F,
     asked: &Verify<'_>,
-) -> Result<Option<Schedule>, CommandFault>
-    ensures { IfOk result (λ named. IfSome named (λ schedule. revisions_of schedule ≡ [])) }
+) -> Result<Option<Schedule>, TrialFault>
+    ensures ok { IfOk result (λ named. AreTablesAsked (F.gave files.now) asked.now
+        (option_map tables_by named)) }
+    ensures revisions { IfOk result
+        (λ named. IfSome named (λ schedule. revisions_of schedule ≡ [])) }
+    ensures fault { IfErr result (AreTablesRefused (F.gave files.now) asked.now) }
 {
     match asked.table {
         Some(path) => {
-            let schedule = tables_in(rt, path, asked.revisions.as_slice())?;
+            let schedule = tables_in(alloc, files, Some(path), asked.revisions.as_slice())?;
             Ok(Some(schedule))
         }
         None => Ok(None),

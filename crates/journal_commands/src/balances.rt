@@ -1,32 +1,48 @@
 //! The command `balances`: what the cards of a journal hold that is read alone.
 
+ghost use Rattle.std.specs.Prelude.{◌≡◌, ◌⊎◌, IfOk, IfErr, OnOk, map};
+ghost use Rattle.std.specs.Process.{exit_status};
+ghost use Rattle.journal_balances.specs.Balances.{AreBalances, HasEnded};
+ghost use Rattle.journal_balances.specs.declared.fault.BalancesFault.{BalancesFault};
+ghost use Rattle.journal_balances.specs.declared.totals.Totals.{Totals as Sums};
+ghost use Rattle.journal_commands.specs.Journals.{balances_fault};
+ghost use Rattle.journal_commands.specs.Words.{HasTold, IsUnread};
+
 use crate::fault::CommandFault;
 use command_line::Balances;
 use journal_balances::{Totals, write_balances};
-use std::io;
+use std::io::Write;
 use std::process::ExitCode;
-use std::rt::Files;
-use table_commands::{bytes_in, tables_in};
+use table_commands::{WholeFiles, tables_in};
 
 /// Writes what each issued card of the journal in a file holds, by the fare tables that are named,
 /// and tells standard error the sums. What it doesn't take is lost.
 ///
 /// The tables are looked at first, and then the journal's file. It is opened for reading alone, and
 /// isn't locked: a server may go on with it. It is read to its end before anything is written.
-pub fn tell_balances<R: AllocGlobal + Files + Print + Eprint>(
+pub fn tell_balances<R: AllocGlobal + Eprint, F: WholeFiles, W: Write>(
     rt: &R,
+    files: &F,
     asked: &Balances<'_>,
-) -> Result<ExitCode, CommandFault> {
-    let schedule = tables_in(rt, asked.table, asked.revisions.as_slice())?;
-    let bytes = bytes_in(rt, asked.journal)?;
-    let mut writer = io::writer(rt);
-    let totals = write_balances(
-        rt.alloc(),
-        schedule,
-        asked.at,
-        bytes.as_slice(),
-        &mut writer,
-    )?;
+    writer: &mut W,
+) -> Result<ExitCode, CommandFault>
+    ensures ok { OnOk result (HasTold (F.gave files.now) asked.now.table.now
+        (map (λ word. word.now) asked.now.revisions.items) asked.now.journal.now
+        (W.contents writer.old) (W.contents writer.new) (λ tables bytes text.
+        (totals : Sums) × AreBalances tables asked.now.at bytes text totals)) }
+    ensures status { IfOk result (λ status. exit_status status ≡ 0) }
+    ensures fault { IfErr result (λ fault. (IsUnread (F.gave files.now) asked.now.table.now
+        (map (λ word. word.now) asked.now.revisions.items) fault × (writer.new ≡ writer.old))
+        ⊎ ((cause : BalancesFault) × (fault ≡ balances_fault cause)
+        × HasTold (F.gave files.now) asked.now.table.now
+        (map (λ word. word.now) asked.now.revisions.items) asked.now.journal.now
+        (W.contents writer.old) (W.contents writer.new) (λ tables bytes text.
+        HasEnded tables asked.now.at bytes text cause))) }
+{
+    let alloc = rt.alloc();
+    let schedule = tables_in(alloc, files, Some(asked.table), asked.revisions.as_slice())?;
+    let bytes = files.bytes_in(alloc, asked.journal)?;
+    let totals = write_balances(alloc, schedule, asked.at, &bytes, writer)?;
     tell_totals(rt, &totals);
     Ok(ExitCode::SUCCESS)
 }

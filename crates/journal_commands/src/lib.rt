@@ -7,6 +7,7 @@
 mod audit;
 mod balances;
 mod behind;
+mod disks;
 mod fault;
 mod history;
 mod migrate;
@@ -15,6 +16,7 @@ mod refusal;
 pub use audit::verify_journal;
 pub use balances::tell_balances;
 pub use behind::{slots_behind, tell_behind};
+pub use disks::{JournalFiles, SystemDisks};
 pub use fault::{CommandFault, tell_command_fault};
 pub use history::tell_history;
 pub use migrate::migrate_journal;

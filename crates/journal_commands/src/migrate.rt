@@ -1,54 +1,82 @@
 //! The command `migrate`: a journal of the first format, carried over to a new file.
 
-ghost use Rattle.std.specs.Prelude.{OnOk};
+ghost use Rattle.std.specs.Prelude.{◌≡◌, ◌⊎◌, ℕ, IfOk, IfErr, OnOk};
 ghost use Rattle.std.specs.Io.KnownBytes.{Appends};
+ghost use Rattle.std.specs.Process.{exit_status};
+ghost use Rattle.line_replay.specs.declared.fault.RunFault.TheVariants.{Write};
+ghost use Rattle.table_commands.specs.declared.fault.TrialFault.TheVariants.{Run};
+ghost use Rattle.table_commands.specs.Tables.{IsTableIn};
+ghost use Rattle.fare_table.specs.Fares.{digest_of};
+ghost use Rattle.fare_table.specs.declared.fares.Fares.{Fares};
+ghost use Rattle.journal_commands.specs.declared.fault.CommandFault.TheVariants.{Trial};
 ghost use Rattle.journal_commands.specs.Migrated.{migrated_line};
+ghost use Rattle.journal_commands.specs.Carried.{HasCarried};
 
 use crate::behind::{slots_behind, tell_behind};
+use crate::disks::JournalFiles;
 use crate::fault::CommandFault;
-use crate::refusal::journal_fault;
 use command_line::Migrate;
 use line_replay::RunFault;
-use std::fs::File;
+use std::alloc::Global;
 use std::io;
 use std::io::Write;
 use std::process::ExitCode;
 use std::rt::Files;
-use table_commands::first_table;
-use tap_disk::FileDisk;
+use table_commands::{WholeFiles, first_table};
+use tap_disk::Disk;
 use tap_journal::Journal;
 
 /// Carries a journal of the first format over to a new file, and writes how many touches it has.
 ///
 /// The table is looked at first, then the old file, and only then the new file is made. The old
 /// file is opened for reading alone. Open slots behind its end are told of.
-pub fn migrate_journal<R: AllocGlobal + Files<File = File> + Print + Eprint>(
+pub fn migrate_journal<
+    R: AllocGlobal + Files + Eprint,
+    F: WholeFiles,
+    D: Disk,
+    S: JournalFiles<D>,
+    W: Write,
+>(
     rt: &R,
+    files: &F,
+    disks: &S,
     asked: &Migrate<'_>,
-) -> Result<ExitCode, CommandFault> {
-    let digest = first_table(rt, Some(asked.table))?.digest();
-    let touches = carry_over(rt, asked, &digest)?;
-    write_migrated(&mut io::writer(rt), touches).map_err(|_| RunFault::Write)?;
-    tell_behind(rt, slots_behind(rt, asked.from, touches));
-    Ok(ExitCode::SUCCESS)
+    writer: &mut W,
+) -> Result<ExitCode, CommandFault>
+    ensures ok { OnOk result ((table : Fares) × (number : ℕ)
+        × IsTableIn (F.gave files.now) asked.now.table.now table
+        × HasCarried D.honest D.content D.outcome (S.opened_alone disks.now) (S.opened disks.now)
+        asked.now (digest_of table) number
+        × Appends (W.contents writer.old) (W.contents writer.new) (migrated_line number)) }
+    ensures status { IfOk result (λ status. exit_status status ≡ 0) }
+    ensures fault { IfErr result (λ fault.
+        (writer.new ≡ writer.old) ⊎ (fault ≡ Trial (Run Write))) }
+{
+    let digest = first_table(rt.alloc(), files, Some(asked.table))?.digest();
+    let touches = carry_over(rt.alloc(), disks, asked, &digest)?;
+    match write_migrated(writer, touches) {
+        Ok(()) => {
+            tell_behind(rt, slots_behind(rt, asked.from, touches));
+            Ok(ExitCode::SUCCESS)
+        }
+        Err(_) => Err(RunFault::Write.into()),
+    }
 }
 
 /// Carries the old file's touches over to the new file, by the digest of their table, and answers
 /// how many there are.
-fn carry_over<R: AllocGlobal + Files<File = File>>(
-    rt: &R,
+fn carry_over<D: Disk, S: JournalFiles<D>>(
+    alloc: Global,
+    disks: &S,
     asked: &Migrate<'_>,
     digest: &[u8; 32],
-) -> Result<u32, CommandFault> {
-    let source = match FileDisk::read_only(rt, asked.from) {
-        Ok(disk) => disk,
-        Err(_) => return Err(journal_fault(rt, asked.from, false)),
-    };
-    let target = match FileDisk::at(rt, asked.to) {
-        Ok(disk) => disk,
-        Err(_) => return Err(journal_fault(rt, asked.to, true)),
-    };
-    match Journal::migrate(rt.alloc(), source, target, asked.cards, digest) {
+) -> Result<u32, CommandFault>
+    ensures ok { IfOk result (HasCarried D.honest D.content D.outcome
+        (S.opened_alone disks.now) (S.opened disks.now) asked.now digest.now) }
+{
+    let source = disks.open_alone(asked.from)?;
+    let target = disks.open(asked.to)?;
+    match Journal::migrate(alloc, source, target, asked.cards, digest) {
         Ok((_, _, touches)) => Ok(touches),
         Err(fault) => Err(fault.cause.into()),
     }

@@ -2,7 +2,7 @@
 
 ghost use Rattle.std.specs.Prelude.{◌≡◌, ◌≢◌, string_bytes, IfOk, IfErr, None, Some};
 ghost use Rattle.std.specs.Io.KnownBytes.{IsAtEnd};
-ghost use Rattle.gate_session.specs.Writing.{Ran};
+ghost use Rattle.gate_session.specs.Writing.{Ran, Wrote};
 ghost use Rattle.fare_table.specs.Table.{IsTableOf};
 ghost use Rattle.fare_table.specs.declared.fault.TableFault.TheVariants as fault;
 ghost use Rattle.table_check.specs.Check.{report_of, fault_in, lines_of_table, HasChecked, IsReport};
@@ -36,7 +36,16 @@ pub fn check_table<R: Read, W: Write>(
     ensures end { IfOk result (λ _. IsAtEnd (R.remaining reader.new)) }
 {
     let bytes = read_all(alloc, reader, turns)?;
-    let report = report(alloc, &bytes)?;
+    check_bytes(alloc, &bytes, writer)
+}
+
+/// Writes of the bytes of a fare table what `check_table` writes, and answers whether the table is
+/// valid. `Memory` comes before anything is written. At `Write` a beginning was.
+pub fn check_bytes<W: Write>(alloc: Global, bytes: &[u8], writer: &mut W) -> Result<bool, RunFault>
+    ensures { Wrote (W.contents writer.old) (W.contents writer.new)
+        (λ text. HasChecked (report_of bytes.now) text result) }
+{
+    let report = report(alloc, bytes)?;
     write_text(writer, report.text.as_bytes())?;
     Ok(report.is_valid)
 }

@@ -1,27 +1,19 @@
 -- Why a fare table that a command names isn't had (docs/OPERATING.md, "Faults"; this project's choice).
-use Rattle.std.specs.Prelude.{◌≡◌, ℕ, List, Some}
+use Rattle.std.specs.Prelude.{◌≡◌, ℕ, Some}
 use Rattle.fare_table.specs.declared.fares.Fares.{Fares}
 use Rattle.fare_table.specs.declared.fault.TableFault.{TableFault}
 use Rattle.fare_table.specs.declared.fault.TableFault.TheVariants as tables
 use Rattle.fare_schedule.specs.Supply.{supply_fault}
 use Rattle.fare_schedule.specs.declared.schedule.Schedule.{Schedule}
 use Rattle.line_replay.specs.declared.fault.RunFault.TheVariants as runs
-use Rattle.table_check.specs.Check.{fault_in}
 use Rattle.table_commands.specs.Detail.{no_detail}
 use Rattle.table_commands.specs.declared.fault.TrialFault.{TrialFault}
-use Rattle.table_commands.specs.declared.fault.TrialFault.TheVariants.{Run, Table, File, Supply}
+use Rattle.table_commands.specs.declared.fault.TrialFault.TheVariants.{Run, Table, Supply}
 
 -- a table that was refused for want of memory says nothing of the table: the run failed
 abbrev pub trial_fault : TableFault → TrialFault
 trial_fault tables.Memory = Run runs.Memory
 trial_fault fault = Table fault no_detail
-
--- why these bytes gave no table: their fault, or there was no memory, or a read failed
-abbrev pub IsTableFault : List ℕ → TrialFault → Type 0
-IsTableFault bytes (Table fault _) = fault_in bytes ≡ Some fault
-IsTableFault bytes (Run runs.Memory) = Unit {0}
-IsTableFault bytes (File _) = Unit {0}
-IsTableFault bytes _ = ⊥
 
 -- why the further table of this place isn't taken: its first cause, or there was no memory
 abbrev pub IsSupplyFault : Schedule → Fares → ℕ → TrialFault → Type 0

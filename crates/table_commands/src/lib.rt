@@ -5,6 +5,7 @@
 
 mod detail;
 mod fault;
+mod files;
 mod notes;
 mod refusal;
 mod replay;
@@ -13,8 +14,9 @@ mod words;
 
 pub use detail::Detail;
 pub use fault::{TrialFault, tell_fault};
+pub use files::{SystemFiles, WholeFiles};
 pub use notes::check_file;
 pub use refusal::{Refusal, kind_refusal, open_refusal};
 pub use replay::replay_input;
-pub use tables::{bytes_in, first_table, schedule_of, tables_in};
+pub use tables::{first_table, schedule_of, tables_in};
 pub use words::words_of;

@@ -1,29 +1,47 @@
-//! The command `replay`: request frames on standard input, answered on standard output.
+//! The command `replay`: request frames that are read, and answered by lines.
 
+ghost use Rattle.std.specs.Prelude.{◌≡◌, ◌⊎◌, IfOk, IfErr, OnOk, map, option_map};
+ghost use Rattle.std.specs.Process.{exit_status};
 ghost use Rattle.command_line.specs.Arguments.{IsWithin};
+ghost use Rattle.table_commands.specs.Tables.{AreRefused};
+ghost use Rattle.table_commands.specs.Replay.{IsWhole, IsUnasked, HasReplayed, HasEndedEarly};
 
 use crate::fault::TrialFault;
-use crate::tables::{TURNS, first_table, schedule_of};
+use crate::files::{TURNS, WholeFiles};
+use crate::tables::tables_in;
 use line_replay::replay_text;
-use std::io;
+use std::alloc::Global;
+use std::io::{Read, Write};
 use std::process::ExitCode;
-use std::rt::Files;
 
-/// Replays standard input to standard output, by the fare table in a file or the example table, and
-/// by further tables. The tables are looked at before any input is read. A fault is theirs, as
-/// `schedule_of` tells it, or that of `replay_text`, which has written a beginning of the answers
-/// then.
-pub fn replay_input<R: AllocGlobal + Files + Input + Print>(
-    rt: &R,
+/// Replays what a reader gives to a writer, by the fare table in a file or the example table, and
+/// by further tables, with so many cards. The tables are looked at before anything is read. A fault
+/// is theirs, as `tables_in` tells it, or that of `replay_text`, which has written a beginning of
+/// the answers then.
+pub fn replay_input<F: WholeFiles, R: Read, W: Write>(
+    alloc: Global,
+    files: &F,
     table: Option<&str>,
     revisions: &[&str],
     cards: u32,
+    reader: &mut R,
+    writer: &mut W,
 ) -> Result<ExitCode, TrialFault>
     requires { IsWithin 100_000 cards }
+    ensures ok { OnOk result (HasReplayed (F.gave files.now)
+        (option_map (λ word. word.now) table.entry) (map (λ word. word.now) revisions.now) cards
+        (R.remaining reader.old) (R.remaining reader.new)
+        (W.contents writer.old) (W.contents writer.new) IsWhole) }
+    ensures status { IfOk result (λ status. exit_status status ≡ 0) }
+    ensures fault { IfErr result (λ fault.
+        (IsUnasked reader.old reader.new writer.old writer.new × AreRefused (F.gave files.now)
+        (option_map (λ word. word.now) table.entry) (map (λ word. word.now) revisions.now) fault)
+        ⊎ HasEndedEarly (F.gave files.now)
+        (option_map (λ word. word.now) table.entry) (map (λ word. word.now) revisions.now) cards
+        (R.remaining reader.old) (R.remaining reader.new)
+        (W.contents writer.old) (W.contents writer.new) fault) }
 {
-    let schedule = schedule_of(rt, first_table(rt, table)?, revisions)?;
-    let mut reader = rt.reader();
-    let mut writer = io::writer(rt);
-    replay_text(rt.alloc(), schedule, cards, &mut reader, &mut writer, TURNS)?;
+    let schedule = tables_in(alloc, files, table, revisions)?;
+    replay_text(alloc, schedule, cards, reader, writer, TURNS)?;
     Ok(ExitCode::SUCCESS)
 }

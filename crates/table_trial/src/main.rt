@@ -6,7 +6,7 @@ use command_line::{Arguments, arguments_of, refuse_command};
 use std::io;
 use std::process::ExitCode;
 use std::rt::{Env, Files};
-use table_commands::{TrialFault, check_file, replay_input, tell_fault, words_of};
+use table_commands::{SystemFiles, TrialFault, check_file, replay_input, tell_fault, words_of};
 
 fn main(rt: HostRuntime) -> io::Result<ExitCode> {
     match run(&rt) {
@@ -22,13 +22,23 @@ fn run<R: AllocGlobal + Env + Files + Input + Print + Eprint>(
 ) -> Result<ExitCode, TrialFault> {
     let words = words_of(rt)?;
     let words: Vec<&str> = words.iter().map(|word| word.as_str()).collect(rt.alloc())?;
+    let files = SystemFiles::new(rt);
+    let mut output = io::writer(rt);
     match arguments_of(rt.alloc(), words.as_slice())? {
         Arguments::Replay {
             table,
             cards,
             revisions,
-        } => replay_input(rt, table, revisions.as_slice(), cards),
-        Arguments::Check { table } => check_file(rt, table),
+        } => replay_input(
+            rt.alloc(),
+            &files,
+            table,
+            revisions.as_slice(),
+            cards,
+            &mut rt.reader(),
+            &mut output,
+        ),
+        Arguments::Check { table } => check_file(rt, &files, table, &mut output),
         _ => Err(TrialFault::Line(refuse_command(rt.alloc())?)),
     }
 }

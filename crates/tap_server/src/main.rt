@@ -10,7 +10,8 @@ use crate::server::serve_gates;
 use crate::standard::standard_files;
 use command_line::{Arguments, arguments_of};
 use journal_commands::{
-    CommandFault, migrate_journal, tell_balances, tell_command_fault, tell_history, verify_journal,
+    CommandFault, SystemDisks, migrate_journal, tell_balances, tell_command_fault, tell_history,
+    verify_journal,
 };
 use std::fs::File;
 use std::io;
@@ -20,7 +21,7 @@ use std::rt::{Env, Files};
 use std::sync::Wait;
 use std::thread::Threads;
 use std::time::Clock;
-use table_commands::{check_file, replay_input, words_of};
+use table_commands::{SystemFiles, check_file, replay_input, words_of};
 
 fn main(rt: HostRuntime) -> io::Result<ExitCode> {
     match run(&rt) {
@@ -45,20 +46,32 @@ fn run<
 >(rt: &R) -> Result<ExitCode, CommandFault> {
     let words = words_of(rt)?;
     let words: Vec<&str> = words.iter().map(|word| word.as_str()).collect(rt.alloc())?;
+    let files = SystemFiles::new(rt);
+    let mut output = io::writer(rt);
     match arguments_of(rt.alloc(), words.as_slice())? {
         Arguments::Replay {
             table,
             cards,
             revisions,
-        } => Ok(replay_input(rt, table, revisions.as_slice(), cards)?),
-        Arguments::Check { table } => Ok(check_file(rt, table)?),
+        } => Ok(replay_input(
+            rt.alloc(),
+            &files,
+            table,
+            revisions.as_slice(),
+            cards,
+            &mut rt.reader(),
+            &mut output,
+        )?),
+        Arguments::Check { table } => Ok(check_file(rt, &files, table, &mut output)?),
         Arguments::Serve(asked) => {
             let _held = standard_files(rt);
             serve_gates(rt, &asked)
         }
-        Arguments::Migrate(asked) => migrate_journal(rt, &asked),
-        Arguments::Verify(asked) => verify_journal(rt, &asked),
-        Arguments::History(asked) => tell_history(rt, &asked),
-        Arguments::Balances(asked) => tell_balances(rt, &asked),
+        Arguments::Migrate(asked) => {
+            migrate_journal(rt, &files, &SystemDisks::new(rt), &asked, &mut output)
+        }
+        Arguments::Verify(asked) => verify_journal(rt.alloc(), &files, &asked, &mut output),
+        Arguments::History(asked) => tell_history(rt.alloc(), &files, &asked, &mut output),
+        Arguments::Balances(asked) => tell_balances(rt, &files, &asked, &mut output),
     }
 }

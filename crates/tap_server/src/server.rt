@@ -23,7 +23,7 @@ use std::sync::Wait;
 use std::sync::atomic::AtomicBool;
 use std::thread::Threads;
 use std::time::{Clock, Duration};
-use table_commands::{Detail, first_table, schedule_of};
+use table_commands::{Detail, SystemFiles, first_table, schedule_of};
 use tap_disk::{Disk, FileDisk};
 use tap_journal::{Journal, JournalFault};
 use tap_office::{CloseCause, Desk, Named, Office, Opening, Seat};
@@ -45,9 +45,10 @@ pub(crate) fn serve_gates<
 >(rt: &R, asked: &Serve<'_>) -> Result<ExitCode, CommandFault>
     requires { IsServeAllowed asked.now }
 {
-    let first = first_table(rt, Some(asked.table))?;
+    let files = SystemFiles::new(rt);
+    let first = first_table(rt.alloc(), &files, Some(asked.table))?;
     let digest = first.digest();
-    let schedule = schedule_of(rt, first, asked.revisions.as_slice())?;
+    let schedule = schedule_of(rt.alloc(), &files, first, asked.revisions.as_slice())?;
     let disk = journal_disk(rt, &digest, asked)?;
     let seats = asked.lines as u16;
     let opening = match Opening::read(rt.alloc(), disk, schedule, asked.cards, seats) {

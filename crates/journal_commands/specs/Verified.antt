@@ -1,0 +1,59 @@
+-- What `verify` has written where it ends, by the words of its command line (docs/OPERATING.md, "verify"
+-- and "Faults"; this project's choice).
+use Rattle.std.specs.Prelude.{◌≡◌, ◌⊎◌, ℕ, List, map, Option, Some, None, option_map}
+use Rattle.command_line.specs.declared.arguments.Verify.{Verify}
+use Rattle.gate_session.specs.Writing.{Wrote}
+use Rattle.journal_audit.specs.Audit.{HasEnded}
+use Rattle.journal_audit.specs.declared.fault.AuditFault.{AuditFault}
+use Rattle.reply_book.specs.Tables.{Tables}
+use Rattle.table_commands.specs.Files.{ForFile, IsFileFault}
+use Rattle.table_commands.specs.Tables.{AreTablesOf, AreRefused}
+use Rattle.table_commands.specs.declared.fault.TrialFault.{TrialFault}
+use Rattle.journal_commands.specs.Command.{audit_fault, seal_asked}
+use Rattle.journal_commands.specs.declared.fault.CommandFault.{CommandFault}
+use Rattle.journal_commands.specs.declared.fault.CommandFault.TheVariants.{Trial}
+
+-- where a first table is named, the tables are those of the words, and else there are none
+abbrev pub AreTablesOfWords : (List ℕ → List ℕ → Type 0) → Option (List ℕ) → List (List ℕ)
+    → Option Tables → Type 0
+AreTablesOfWords gave None further None = Unit {0}
+AreTablesOfWords gave (Some first) further (Some tables) =
+    AreTablesOf gave (Some first) further tables
+AreTablesOfWords gave _ further _ = ⊥
+
+-- so it is of the words of this command line
+abbrev pub AreTablesAsked : (List ℕ → List ℕ → Type 0) → Verify → Option Tables → Type 0
+AreTablesAsked gave verify tables =
+    AreTablesOfWords gave (option_map (λ word. word.now) verify.table)
+    (map (λ word. word.now) verify.revisions.items) tables
+
+-- a first table is named, and the words give no tables, for this fault
+abbrev pub AreWordsRefused : (List ℕ → List ℕ → Type 0) → Option (List ℕ) → List (List ℕ)
+    → TrialFault → Type 0
+AreWordsRefused gave None further fault = ⊥
+AreWordsRefused gave (Some first) further fault = AreRefused gave (Some first) further fault
+
+-- so it is of the words of this command line
+abbrev pub AreTablesRefused : (List ℕ → List ℕ → Type 0) → Verify → TrialFault → Type 0
+AreTablesRefused gave verify fault =
+    AreWordsRefused gave (option_map (λ word. word.now) verify.table)
+    (map (λ word. word.now) verify.revisions.items) fault
+
+-- why the journal wasn't looked at: there are no tables, or its file isn't had
+abbrev pub IsUnread : (List ℕ → List ℕ → Type 0) → Verify → CommandFault → Type 0
+IsUnread gave verify (Trial fault) = AreTablesRefused gave verify fault ⊎ IsFileFault fault
+IsUnread gave verify _ = ⊥
+
+-- of the tables of the words, the bytes of the journal's file and the text that was written this is said
+pub record HasVerified (gave : List ℕ → List ℕ → Type 0) (verify : Verify)
+    (before after : Option (List ℕ)) (Says : Option Tables → List ℕ → List ℕ → Type 0) : Type 0 where
+  pub tables : Option Tables
+  pub asked : AreTablesAsked gave verify tables
+  pub written : ForFile gave verify.journal.now (λ bytes. Wrote before after (λ text. Says tables bytes text))
+
+-- the audit ended early, for this fault, behind what was written
+abbrev pub HasEndedEarly : (List ℕ → List ℕ → Type 0) → Verify → Option (List ℕ) → Option (List ℕ)
+    → CommandFault → Type 0
+HasEndedEarly gave verify before after fault =
+    (audit : AuditFault) × (fault ≡ audit_fault audit) × HasVerified gave verify before after
+    (λ tables bytes text. HasEnded tables (seal_asked verify.seal) bytes text audit)
