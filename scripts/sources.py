@@ -1,29 +1,29 @@
 """What the scripts read in the sources: the functions of a text, the wrong bodies of a crate, and on what one rests.
 
-docs/proofs/tried.md has a row for each wrong body that was tried and refused outside the gate, with a digest of what
-that rests on: the toolchain's logic, the wrong body's text, the crate's `src/`, `specs/` and `proofs/`, and of each
-library of the repository below it what a caller sees: `specs/`, and `src/` without bodies and comments. Tests don't
-count.
+docs/proofs/tried.json has a row for each wrong body that was tried, with a digest of what that rests on: the
+toolchain's logic, the wrong body's change, the crate's `src/`, `specs/` and `proofs/`, and of each library of the
+repository below it what a caller sees: `specs/`, and `src/` without bodies and comments. Tests don't count.
 """
 import functools
 import hashlib
+import json
+import pathlib
 import re
 import subprocess
+
+import refusals
 
 # A signature with its clauses: from `fn` to the body, or to the semicolon of a trait's method.
 FUNCTION = re.compile(r"^(?P<indent> {0,4})(?:(?P<pub>pub )|pub\([^)]*\) )?(?:const |unsafe )*fn (?P<name>\w+)", re.M)
 COMMENT = re.compile(r"^ *(?://|--).*\n", re.M)
 TESTS = re.compile(r"\n#\[cfg\(test\)\]\nmod tests;\n")
-ROW = re.compile(r"^\| `(?P<edit>\w+)` \| (?P<digest>[0-9a-f]+) \|$", re.M)
+# What holds functions: an impl or a trait, from its first column to the brace that ends it.
+OWNER = re.compile(r"^(?:pub )?(?:unsafe )?(?P<kind>impl|trait)\b(?P<head>[^{\n]*(?:\n[^{}\n]*)*?)\{$", re.M)
 
-TRIED = """\
-# Wrong bodies that were tried outside the gate
-
-`scripts/wrong-bodies` writes this page. A row is a wrong body of a crate's `wrong-bodies/` that the checker refused,
-with a digest of what was tried: the toolchain's logic, the wrong body, the crate's code, definitions and proofs, and
-the contracts of the libraries below it. `scripts/check-proofs` says which rows no longer fit, and
-`scripts/wrong-bodies --changed` tries those.
-"""
+TRIED = ("scripts/wrong-bodies writes this file: for each wrong body that was tried, a digest of what that rested on (the "
+         "toolchain's logic, the change, the crate's code, definitions and proofs, the contracts of the libraries below "
+         "it), the goals that stayed open in each function and the written answers that were refused; with the right "
+         "body beside it, likewise")
 
 
 def heads(text, indent):
@@ -38,6 +38,36 @@ def heads(text, indent):
             ended = end.search(text, match.start())
             close = ended.end() if ended else len(text)
         yield match, close
+
+
+def function_at(path, text, at):
+    """The function of a file of src/ that has this place: a free one by its path below the crate, that of a type as
+    `Type::name`, and that in an impl of a trait as `module::*::name`, since the checker gives the type a name of its
+    own there. `None`: it stands in no function."""
+    parts = pathlib.PurePath(path).with_suffix("").parts
+    if parts[0] != "src":
+        return None
+    module = [part for part in parts[1:] if part not in ("lib", "main", "mod")]
+    found = None
+    for indent in (0, 4):
+        for match, close in heads(text, indent):
+            if text[close - 1] == "{" and match.start() <= at < text.find("\n" + " " * indent + "}", close):
+                found = match
+    if found is None:
+        return None
+    if found["indent"]:
+        owner = [one for one in OWNER.finditer(text) if one.end() <= at][-1]
+        if owner["kind"] == "trait" or re.search(r"\bfor\b", owner["head"]):
+            return "::".join([*module, f"*::{found['name']}"])
+        subject = re.sub(r"^<(?:[^<>]|<[^<>]*>)*>", "", owner["head"].strip())
+        return f"{re.search(r'[A-Za-z_]+', subject)[0]}::{found['name']}"
+    return "::".join([*module, found["name"]])
+
+
+def is_place(path, place):
+    """Whether the checker's path of a function is this one of `function_at`."""
+    own, wanted = path.split("::")[-len(place.split("::")):], place.split("::")
+    return len(own) == len(wanted) and all(one == other or other == "*" for one, other in zip(own, wanted))
 
 
 def without_bodies(text):
@@ -91,8 +121,8 @@ def logic():
     return subprocess.run(["rt", "version"], capture_output=True, check=True, text=True).stdout.partition(" ")[2]
 
 
-def digests(top, name):
-    """The digest of each wrong body in the crate's wrong-bodies/."""
+def base_of(top, name):
+    """What each text that is tried in a crate rests on, as the beginning of its digest."""
     rests = hashlib.sha256(logic().encode())
     crate = top / "crates" / name
     for text in texts(crate, ("src", "specs", "proofs")):
@@ -100,32 +130,50 @@ def digests(top, name):
     for library in libraries(top, name):
         for text in texts(top / "crates" / library, ("src", "specs"), caller_sees):
             rests.update(text.encode())
-    found = {}
-    for file in sorted((crate / "wrong-bodies").glob("*.edit")):
-        one = rests.copy()
-        one.update(file.read_bytes())
-        found[file.stem] = one.hexdigest()[:16]
-    return found
+    return rests
+
+
+def digest_of(base, changes):
+    """The digest of these changes, over what they rest on."""
+    one = base.copy()
+    one.update(repr([tuple(change) for change in changes]).encode())
+    return one.hexdigest()[:16]
+
+
+def digests(top, name):
+    """The digest of each wrong body of the crate with its right one, whatever clause it names."""
+    base = base_of(top, name)
+    return {edit.name: digest_of(base, edit.changes) for edit in refusals.edits_of(top, name)}
 
 
 def tried(top):
-    """The rows of docs/proofs/tried.md: by crate, each wrong body with the digest of what was tried."""
-    page = top / "docs" / "proofs" / "tried.md"
-    blocks = re.split(r"^## (\w+)\n", page.read_text(), flags=re.M)[1:] if page.is_file() else []
-    return {name: {row["edit"]: row["digest"] for row in ROW.finditer(block)}
-            for name, block in zip(blocks[::2], blocks[1::2])}
+    """The rows of docs/proofs/tried.json: by crate, for each wrong body its digest and what was said of it."""
+    file = top / "docs" / "proofs" / "tried.json"
+    rows = json.loads(file.read_text())["tried"] if file.is_file() else []
+    found = {}
+    for row in rows:
+        name, edit = row.pop("body").split("/")
+        found.setdefault(name, {})[edit] = row
+    return found
 
 
 def write_tried(top, rows):
-    """Writes docs/proofs/tried.md from these rows, sorted by name."""
-    blocks = [TRIED]
-    for name in sorted(name for name in rows if rows[name]):
-        lines = [f"| `{edit}` | {digest} |\n" for edit, digest in sorted(rows[name].items())]
-        blocks.append(f"\n## {name}\n\n| Wrong body | Digest |\n|---|---|\n" + "".join(lines))
-    (top / "docs" / "proofs" / "tried.md").write_text("".join(blocks))
+    """Writes docs/proofs/tried.json from these rows, a line each, sorted by name."""
+    lines = [json.dumps({"body": f"{name}/{edit}", **rows[name][edit]}) for name in sorted(rows) for edit in sorted(rows[name])]
+    text = ",\n".join(lines)
+    (top / "docs" / "proofs" / "tried.json").write_text(f'{{"what": {json.dumps(TRIED)}, "tried": [\n{text}\n]}}\n')
+
+
+def judged(top, edit, row):
+    """How a wrong body went by what was said of it: a word, and what is told of it."""
+    if "fault" in row:
+        return "unread", row["fault"]
+    wrong, right = ({path: refusals.said_of(said) for path, said in row[key].items()} if key in row else None
+                    for key in ("wrong", "right"))
+    return refusals.verdict(edit, wrong, right, lambda path: refusals.written_for(top / "crates" / edit.crate, path))
 
 
 def stale(top, name):
-    """The wrong bodies of the crate's wrong-bodies/ that have no row, or one of another digest."""
+    """The wrong bodies of the crate that have no row, or one of another digest."""
     rows = tried(top).get(name, {})
-    return [edit for edit, digest in digests(top, name).items() if rows.get(edit) != digest]
+    return [edit for edit, digest in digests(top, name).items() if rows.get(edit, {}).get("digest") != digest]

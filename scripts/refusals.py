@@ -1,0 +1,233 @@
+"""What a wrong body is, what the checker says of it, and whether it is refused for its reason.
+
+A wrong body is a file crates/NAME/must-fail/EDIT.edit or crates/NAME/wrong-bodies/EDIT.edit, of lines that begin so:
+
+  file: src/writes.rt          the file that the lines below change
+  old: TEXT                    a text that stands there once
+  new: TEXT                    what stands in its place
+  right: TEXT                  what could stand there and keeps the promise, in the same form; behind its `new: `
+  refused by: FUNCTION.LABEL   the clause that is open for this body, as in docs/proofs/; several have a space between
+
+FUNCTION is a function as docs/proofs/ names it, LABEL the label of a clause of it, or `ensures` for a clause without
+one. The condition of a call, the invariant of a type or of a loop is named by its goal, as `Desk::learn.invariant_of-self`.
+`Examples.NAME` is what stands in proofs/Examples.antt under that name. `rt` reads the first three lines alone.
+"""
+import dataclasses
+import pathlib
+import re
+
+NOTE = re.compile(r"note: (?P<file>src/\S+?):\d+:\d+: it is not proved that (?P<what>.*?)(?: \(`(?P<goal>[^`]+)`\))?(?:;.*)?")
+ERROR = re.compile(r"(?:\./)?(?P<file>\S+?):\d+:\d+: error(?:\[[\w-]+\])?: (?:`(?P<name>[^`]*)`)?(?P<said>.*)")
+VERDICT = re.compile(r"fn (?P<path>[^ ]+(?: as [^ ]+)?): (?P<said>.*)")
+# A step that an answer names isn't there; and what comes of something else that was refused.
+NAMES = re.compile(r"that can be named from here|has no field|is not in scope|has no `|\(nearest: ")
+FOLLOWS = re.compile(r"was rejected|not admitted|not checked")
+ANSWER = re.compile(r"^pub (\S+) : goal\.", re.M)
+# What makes a step of a body, or a way through it: a call, and the words and signs that branch.
+STEP = re.compile(r"\b[a-z_]\w*!?(?=\()|\b(?:return|break|continue|if|match|while|for)\b|\?|&&|\|\|")
+PASSES = ("open", "answered")
+
+
+@dataclasses.dataclass
+class Edit:
+    """A wrong body: its crate's name, the folder that it stands in, the clauses that it names, and its changes."""
+    crate: str
+    folder: str
+    name: str
+    named: list  # pairs of a function and a label
+    changes: list  # [file, old, new, right or None]
+
+    @property
+    def has_right(self):
+        return any(change[3] is not None for change in self.changes)
+
+    def keeps_steps(self):
+        """Whether the new texts have the steps of the old ones, in their order: a value is changed alone."""
+        return all(STEP.findall(old) == STEP.findall(new) for _, old, new, _ in self.changes)
+
+
+def read_edit(file):
+    """The wrong body that stands in this file."""
+    edit = Edit(file.parent.parent.name, file.parent.name, file.stem, [], [])
+    path, old = "", ""
+    for line in file.read_text().split("\n"):
+        word, _, rest = line.partition(": ")
+        if word == "refused by":
+            edit.named += [(one.rpartition(".")[0], one.rpartition(".")[2]) for one in rest.split()]
+        elif word == "file":
+            path = rest.strip()
+        elif word == "old":
+            old = rest
+        elif line.startswith("new:"):
+            edit.changes.append([path, old, line[4:].removeprefix(" "), None])
+        elif word == "right" and edit.changes:
+            edit.changes[-1][3] = rest
+    return edit
+
+
+def edits_of(top, name):
+    """The wrong bodies of a crate, those that the gate tries first."""
+    folder = top / "crates" / name
+    return [read_edit(file) for part in ("must-fail", "wrong-bodies") for file in sorted((folder / part).glob("*.edit"))]
+
+
+def label_of(goal):
+    """The label of the clause that a goal belongs to, or the goal itself, as that of a call's condition."""
+    if not goal.startswith("returns"):
+        return goal
+    found = re.search(r"-clause-(\w+)", goal)
+    return found[1] if found else "ensures"
+
+
+def is_goal(name):
+    """Whether it is a goal of the checker, and no lemma beside the answers."""
+    return re.match(r"returns|\S+-requires|invariant_of", name) is not None
+
+
+def is_free(written, wanted):
+    """Whether none of the wanted labels has a written answer."""
+    return written is not None and not written & wanted
+
+
+def is_condition(label):
+    """Whether it is the condition of a call, or an invariant."""
+    return "requires" in label or label.startswith("invariant_of")
+
+
+@dataclasses.dataclass
+class Said:
+    """What was said of a function: the goals that the search left open, those whose written answer was refused by its
+    type, whether all answers fit the steps that are there, and whether it rests on another function without a proof."""
+    open: set = dataclasses.field(default_factory=set)
+    answers: set = dataclasses.field(default_factory=set)
+    fits: bool = True
+    rests: bool = False
+
+    def goals(self):
+        return self.open | self.answers
+
+    def is_clear(self):
+        return not self.goals() and self.fits
+
+    def kept(self):
+        """As it is recorded."""
+        return {"open": sorted(self.open), "answers": sorted(self.answers)} | ({} if self.fits else {"fits": False})
+
+
+def said_of(kept):
+    return Said(set(kept["open"]), set(kept["answers"]), kept.get("fits", True))
+
+
+def function_of(file):
+    """The function, or the file of lemmas, that a file of proofs/ belongs to."""
+    parts = pathlib.PurePath(file).with_suffix("").parts[1:]
+    return "::".join(parts[:-1]) if parts[-1] in ("Answers", "Invariants", "Proof") else parts[-1]
+
+
+def read_told(out):
+    """What a check said of each function, and of each file of lemmas, and the errors that keep it from being read.
+
+    A function that the checker has a verdict on is there, also where nothing is open.
+    """
+    told, unread, notes, errors = {}, [], set(), []
+    for line in out.split("\n"):
+        if found := NOTE.fullmatch(line):
+            notes.add(found["goal"] or found["what"])
+        elif found := ERROR.fullmatch(line):
+            if found["file"].startswith("proofs/"):
+                errors.append((function_of(found["file"]), found["name"], found["said"]))
+            else:
+                unread.append(line)
+        elif found := VERDICT.fullmatch(line):
+            # The notes on a function come right before its verdict.
+            said = told.setdefault(found["path"].partition("::")[2], Said())
+            said.open |= notes
+            said.rests |= "it calls `" in found["said"]
+            notes = set()
+        elif line.startswith("error"):
+            unread.append(line)
+    for path, name, text in errors:
+        said = told.setdefault(path, Said())
+        if NAMES.search(text):
+            said.fits = False
+        elif name and not FOLLOWS.search(text):
+            said.answers.add(name)
+    for path, name, text in errors:
+        # What rests on a lemma of the answers that was refused by its type is refused by way of it.
+        if name and FOLLOWS.search(text) and any(f"`{one}`" in text for one in told[path].answers):
+            told[path].answers.add(name)
+    return told, unread
+
+
+def is_named(path, function):
+    """Whether FUNCTION, as docs/proofs/ has it, is the function that the checker tells by this path. A trait's method
+    stands there under the type's name with the trait's behind it."""
+    own, wanted = path.split("::"), function.split("::")
+    if own[-1] != wanted[-1]:
+        return False
+    if len(wanted) == 1 or own[-len(wanted):] == wanted:
+        return True
+    return len(own) > 1 and len(wanted) == 2 and own[-2].startswith(wanted[0])
+
+
+def matching(told, function):
+    """The paths of the functions of this name: of one whose path has it as it stands, where there is one."""
+    paths = [path for path in told if is_named(path, function)]
+    return [path for path in paths if f"::{path}".endswith(f"::{function}")] or paths
+
+
+def written_for(crate, path):
+    """The labels of a function's goals that have written answers: what the search doesn't find for the body as it stands.
+    `None`: all of its proof is written."""
+    folder = crate / "proofs" / path.replace("::", "/")
+    if (folder / "Proof.antt").is_file():
+        return None
+    file = folder / "Answers.antt"
+    return {label_of(goal) for goal in ANSWER.findall(file.read_text())} if file.is_file() else set()
+
+
+def verdict(edit, wrong, right, written):
+    """How a wrong body went: a word, and what is said of it. `open` and `answered` pass.
+
+    WRONG has what was said with it, RIGHT with the right body, `None` where that wasn't tried. WRITTEN gives the labels of
+    a function that have written answers.
+      open        the search leaves the named clauses open, and finds them by itself for the body as it stands; or all
+                  written answers fit
+      answered    they are open, or their answers refused by type, and not so for the right body, or for the body as it
+                  stands where the wrong one changes a value alone
+      undecided   the answers don't fit, and nothing shows that they would for a right body of this form
+      condition   the condition of a call, or an invariant, is open and isn't named
+      another     something is open, and not the named clause
+      proved      nothing is open
+      unnamed     it names no clause
+    """
+    if not any(said.goals() for said in wrong.values()):
+        return ("undecided", "answers name what isn't there, and no more") if any(
+            not said.fits for said in wrong.values()) else ("proved", "nothing is open")
+    every = sorted(f"{path}.{label}" for path, said in wrong.items() for label in {label_of(goal) for goal in said.goals()})
+    if not edit.named:
+        return "unnamed", f"open are: {', '.join(every)}"
+    if right is None and edit.keeps_steps() and not edit.has_right and all(said.fits for said in wrong.values()):
+        right = {}
+    spared = {path: right[path].goals() if right and path in right else set() for path in wrong}
+    named = {label for _, label in edit.named}
+    conditions = {label for said in wrong.values() for label in map(label_of, said.open)
+                  if is_condition(label) and label not in named}
+    if conditions:
+        return "condition", f"open besides: {', '.join(sorted(conditions))}"
+    word, besides = "open", set()
+    for function in dict.fromkeys(function for function, _ in edit.named):
+        wanted = {label for one, label in edit.named if one == function}
+        said = {path: wrong[path] for path in matching(wrong, function)}
+        searched = {label_of(goal) for one in said.values() for goal in one.open}
+        labels = searched | {label_of(goal) for one in said.values() for goal in one.answers}
+        if wanted - labels:
+            return "another", f"{function}.{', '.join(sorted(wanted - labels))} isn't open; open are: {', '.join(every)}"
+        besides |= {label_of(goal) for one in said.values() for goal in one.goals() if is_goal(goal)} - wanted
+        if wanted <= searched and all(one.fits and not one.answers or is_free(written(path), wanted) for path, one in said.items()):
+            continue
+        fresh = {label_of(goal) for path, one in said.items() for goal in one.goals() - spared[path]}
+        if right is None or wanted - fresh:
+            return "undecided", ("it has no right body" if right is None else "the right body is refused alike")
+        word = "answered"
+    return word, f"besides: {', '.join(sorted(besides))}" if besides else ""
