@@ -1,0 +1,102 @@
+"""What bovtrila's commands say of a journal, for the scripts that stand above several of them.
+
+It needs nothing but Python and the program, so that a task of it can be sent to another machine.
+"""
+import hashlib
+import pathlib
+import re
+import shutil
+import subprocess
+
+# The header of a journal and the slots of its two formats, in bytes; the mark of a slot that counts; where a slot has its
+# touch's kind, the kind of a revision, and where its table's digest stands (docs/JOURNAL.md).
+HEADER, SLOTS, MARK = 64, {b"OYSTERJ1": 32, b"OYSTERJ2": 64}, b"\xa5"
+KIND, REVISION, DIGEST = 1, 6, slice(12, 44)
+
+
+class Fault(Exception):
+    """The program refused a journal, or failed on it. The text is its fault's line, or how it ended."""
+
+
+def found(name=None):
+    """The program: that of this name, the one on the path, or that of this repository."""
+    here = pathlib.Path(__file__).resolve().parent.parent
+    return name or shutil.which("bovtrila") or str(here / "scripts" / "bovtrila")
+
+
+def said(program, *words, output=subprocess.PIPE):
+    """What a command wrote on its two outputs; a fault where its status isn't 0."""
+    done = subprocess.run([program, *map(str, words)], stdin=subprocess.DEVNULL, stdout=output, stderr=subprocess.PIPE)
+    told = done.stderr.decode(errors="replace")
+    if done.returncode > 0:
+        raise Fault(told.strip().replace("\n  ", ": ") or f"{program} ended with status {done.returncode}")
+    if done.returncode < 0:
+        raise Fault(f"{program} was ended by signal {-done.returncode}")
+    return (done.stdout or b"").decode(), told
+
+
+def named_tables(journal):
+    """The digests that a journal's file names: that of its first table, and of each revision's, in their order. Of a file
+    that is no journal there may be none: the program says what it is."""
+    content = pathlib.Path(journal).read_bytes()
+    size = SLOTS.get(content[1:9])
+    if size is None or len(content) < HEADER:
+        return []
+    marks = content[HEADER::size]
+    touches = len(marks) - len(marks.lstrip(MARK))
+    kinds = content[HEADER + KIND::size][:touches]
+    digests, place = [content[17:49].hex()], kinds.find(REVISION)
+    while place >= 0:
+        slot = HEADER + size * place
+        digests.append(content[slot:slot + size][DIGEST].hex())
+        place = kinds.find(REVISION, place + 1)
+    return list(dict.fromkeys(digests))
+
+
+def words_of_tables(journal, tables):
+    """The words that name a journal's tables, out of these files by their digests. A table that isn't there is left out:
+    the program says which touch names it, and of a first one that it is another."""
+    files = [tables[digest] for digest in named_tables(journal) if digest in tables]
+    return ["--table", *(files or list(tables.values())[:1])]
+
+
+def by_digest(files):
+    """The files of fare tables, by the digests of their bytes."""
+    return {hashlib.sha256(pathlib.Path(file).read_bytes()).hexdigest(): str(file) for file in files}
+
+
+def verified(program, journal, tables, seal=None):
+    """What `verify` says of a journal: its lines by their first words, with a seal of all its touches. Where a seal of
+    before is given, a number of touches and a digest, the journal has to have it still."""
+    words, named = ["verify", "--journal", journal], words_of_tables(journal, tables)
+    asked = ["--seal"] if seal is None else ["--sealed", *seal]
+    facts = dict(line.partition(" ")[::2] for line in said(program, *words, *asked, *named)[0].splitlines())
+    numbers = {name: int(facts[name]) for name in ("version", "capacity", "cards", "touches")}
+    # One run gives no more than one seal. The new one is worked out here, as any program can.
+    size = SLOTS[b"OYSTERJ%d" % numbers["version"]]
+    new = sealed(journal, HEADER + size * numbers["touches"]) if seal else facts["sealed"].split()[1]
+    return {**numbers, "digest": facts["digest"], "seal": new}
+
+
+def sealed(journal, size):
+    """The SHA-256 digest of a file's first bytes, so many."""
+    with open(journal, "rb") as file:
+        return hashlib.sha256(file.read(size)).hexdigest()
+
+
+def balanced(program, journal, tables, touches):
+    """The sums that `balances` tells after so many touches: cards, balance, paid_in and charged."""
+    words = ["balances", "--journal", journal, "--at", touches, *words_of_tables(journal, tables)]
+    _, told = said(program, *words, output=subprocess.DEVNULL)
+    return {name: int(number) for name, number in re.findall(r"^([a-z_]+) (-?\d+)$", told, re.M)}
+
+
+def audited(program, journal, tables, seal=None):
+    """What an audit finds of a journal: what it holds, its seal and its sums, or the fault. It raises nothing."""
+    try:
+        facts = verified(program, journal, tables, seal)
+        return {**facts, "sums": balanced(program, journal, tables, facts["touches"])}
+    except Fault as fault:
+        return {"fault": str(fault)}
+    except OSError as error:
+        return {"fault": error.strerror}

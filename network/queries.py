@@ -1,0 +1,26 @@
+"""The queries of network/queries.sql, by their names."""
+import pathlib
+import re
+
+import database
+
+FILE = pathlib.Path(__file__).resolve().parent / "queries.sql"
+FORM = re.compile(r"^-- name: (\w+)\n((?:-- [^\n]*\n)+?)-- indexes:([^\n]*)\n(.*?;)$", re.M | re.S)
+
+
+class Query:
+    """A query: what it says, the indexes that it goes by, its text, and the parameters that it needs."""
+
+    def __init__(self, words, indexes, text):
+        self.words, self.indexes, self.text = " ".join(words.replace("-- ", "").split()), indexes.split(), text
+        self.wanted = set(re.findall(database.PARAMETER, text))
+
+
+def known():
+    return {name: Query(*rest) for name, *rest in FORM.findall(FILE.read_text())}
+
+
+def ask(base, name, **values):
+    """The names of a query's columns, and its rows; of the values it takes those that it needs."""
+    query = known()[name]
+    return base.table(query.text, **{parameter: values[parameter] for parameter in query.wanted})

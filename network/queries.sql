@@ -1,0 +1,108 @@
+-- The queries of network/query, in SQL that PostgreSQL and SQLite share. Each has a name, what it says, the indexes of
+-- network/schema.sql that it goes by, and its parameters as :card, :first and :last (fare days) and :day_before (a moment).
+
+-- name: held
+-- What a card of the network holds, on each server whose accounts have it.
+-- indexes: touches_card
+SELECT card, station, server, server_card, state, balance, paid_in, charged
+FROM held
+WHERE server_card = :card - first_card + 1
+ORDER BY server;
+
+-- name: holdings
+-- What each card of the network holds on all its servers together, and on how many of them it is inside. It reads all rows.
+-- indexes:
+SELECT card, count(*) AS servers, sum(CASE state WHEN 'inside' THEN 1 ELSE 0 END) AS inside, sum(balance) AS balance,
+       sum(paid_in) AS paid_in, sum(charged) AS charged
+FROM held
+GROUP BY card
+ORDER BY card;
+
+-- name: journeys
+-- The journeys that began, what was paid in and what was taken, less what was given back, by station and quarter of an hour.
+-- indexes: touches_day
+SELECT station, quarter, sum(CASE WHEN verdict IN ('Entered', 'EnteredOverOpen') THEN 1 ELSE 0 END) AS journeys,
+       sum(CASE act WHEN 'top-up' THEN change ELSE 0 END) AS paid_in,
+       -sum(CASE WHEN act IN ('in', 'out') THEN change ELSE 0 END) AS taken
+FROM history
+WHERE day BETWEEN :first AND :last AND accepted AND act <> 'revision'
+GROUP BY station, quarter
+ORDER BY station, quarter;
+
+-- name: refusals
+-- The touches that were refused, by gate and verdict.
+-- indexes: touches_day
+SELECT station, server, gate, verdict, count(*) AS touches
+FROM history
+WHERE day BETWEEN :first AND :last AND NOT accepted
+GROUP BY station, server, gate, verdict
+ORDER BY station, server, gate, verdict;
+
+-- name: maxima
+-- The journeys that cost a maximum, by the touch that tells it (docs/AUDIT.md, "The report of a day"): what the touch in
+-- was charged, and what the touch out.
+-- indexes: touches_day touches_card
+SELECT station, server, place, card, verdict, moment,
+       CASE verdict WHEN 'ExitedUnstarted' THEN 0 ELSE -(
+           SELECT entry.change FROM touches AS entry
+           WHERE entry.journal = history.journal AND entry.card = history.server_card AND entry.place < history.place
+               AND entry.verdict IN ('Entered', 'EnteredContinued', 'EnteredOverOpen')
+           ORDER BY entry.place DESC LIMIT 1) END AS at_entry,
+       CASE act WHEN 'out' THEN -change ELSE 0 END AS at_exit
+FROM history
+WHERE day BETWEEN :first AND :last AND verdict IN ('EnteredOverOpen', 'ExitedUnstarted', 'ExitedLate')
+ORDER BY station, server, place;
+
+-- name: inside
+-- The cards that went in on a fare day from :first on, before :day_before, which is a day before the moment that is asked
+-- of, and haven't come out since. A card's travel never goes back, so later touches are of these days too.
+-- indexes: touches_day
+SELECT station, server, card, place, moment, station_number, -change AS held_back
+FROM history
+WHERE day >= :first AND moment < :day_before AND NOT closed
+    AND verdict IN ('Entered', 'EnteredContinued', 'EnteredOverOpen')
+    AND NOT EXISTS (
+        SELECT 1 FROM touches AS later
+        WHERE later.day >= :first AND later.journal = history.journal AND later.card = history.server_card
+            AND later.place > history.place
+            AND later.verdict IN ('Entered', 'EnteredContinued', 'EnteredOverOpen', 'Exited', 'ExitedUnstarted',
+                                  'ExitedLate'))
+ORDER BY station, server, card;
+
+-- name: revisions
+-- Each accepted revision of the fares, and for each server whether its own fares go by that table on that day: one that
+-- lacks a revision which the others have charges by another. first_day counts days since 1970-01-01.
+-- indexes:
+SELECT first_day, digest, station, server,
+       CASE WHEN digest = in_force THEN 'has it' ELSE 'lacks it' END AS state
+FROM (SELECT wanted.first_day, wanted.digest, servers.station, servers.name AS server,
+             coalesce((SELECT own.digest FROM revisions AS own
+                       WHERE own.journal = journals.journal AND own.verdict = 'Revised'
+                           AND own.first_day <= wanted.first_day
+                       ORDER BY own.first_day DESC LIMIT 1), journals.digest) AS in_force
+      FROM (SELECT DISTINCT digest, first_day FROM revisions WHERE verdict = 'Revised') AS wanted
+      CROSS JOIN journals
+      JOIN servers ON servers.name = journals.server
+      WHERE NOT closed) AS asked
+ORDER BY first_day, digest, station, server;
+
+-- name: clocks
+-- The gates whose moments go back from one touch to the next: how often, and by how many seconds at most.
+-- indexes: touches_day
+SELECT station, server, gate, count(*) AS times, max(before - seconds) AS most_seconds, min(place) AS first_place
+FROM (SELECT station, server, gate, place, seconds,
+             lag(seconds) OVER (PARTITION BY journal, gate ORDER BY place) AS before
+      FROM history
+      WHERE day BETWEEN :first AND :last AND act <> 'revision') AS touched
+WHERE seconds < before
+GROUP BY station, server, gate
+ORDER BY station, server, gate;
+
+-- name: violations
+-- What breaks a promise across rows: there has to be nothing. It reads all rows.
+-- indexes:
+SELECT servers.station, journals.server, journals.name AS journal, place, breach
+FROM violations
+JOIN journals ON journals.journal = violations.journal
+JOIN servers ON servers.name = journals.server
+ORDER BY servers.station, journals.server, journals.name, place, breach;

@@ -1,0 +1,205 @@
+"""What the tests of network/ share: the six servers' journals, the two databases, and how its scripts are run."""
+import atexit
+import contextlib
+import functools
+import os
+import pathlib
+import shutil
+import subprocess
+import sys
+import tempfile
+import unittest
+
+import harness
+import postgres
+import running
+import town
+from harness import EXAMPLE, PROGRAM, REVISED, TOP
+
+sys.path.append(str(TOP / "network"))
+
+import database
+import queries
+
+NETWORK = TOP / "network"
+# How many seconds a command may take: some start Dask's processes, beside other tests.
+TIME = 300
+TABLES = ["--table", EXAMPLE, REVISED]
+PYTHON = "/usr/bin/python3"
+DAYS = (town.FRIDAY, town.SATURDAY)
+AT = town.THURSDAY + 4 * town.DAY
+# The server whose journal has a flipped bit, and what is asked of each query.
+FLIPPED = "cedar-2"
+VALUES = {"first": DAYS[0], "last": DAYS[1], "day_before": town.moment_text(AT - town.DAY)}
+
+# Runs network/load with a call at each step: a statement, each 40 rows of a copy, and both sides of the commit. At step
+# WHERE it is killed, or says so and waits for a line.
+DRIVER = """
+import importlib.machinery, importlib.util, itertools, os, signal, sys
+sys.dont_write_bytecode = True
+sys.path.insert(0, {network!r})
+import database
+where, what, sys.argv[:2] = sys.argv[1], sys.argv[2], []
+sys.argv[0] = {network!r} + "/load"
+taken = itertools.count(1)
+
+def step(name=None):
+    if where in (str(next(taken)), name):
+        if what == "kill":
+            os.kill(os.getpid(), signal.SIGKILL)
+        print("holding", flush=True)
+        sys.stdin.readline()
+
+def before(kind, name):
+    old = getattr(kind, name)
+    def new(self, *words, **values):
+        step(name)
+        result = old(self, *words, **values)
+        if name == "commit":
+            step("committed")
+        return result
+    setattr(kind, name, new)
+
+for kind in (database.Postgres, database.Sqlite):
+    before(kind, "execute")
+    before(kind, "commit")
+    def copy(self, lines, old=kind.copy):
+        def stepped():
+            for count, line in enumerate(lines):
+                if count % 40 == 0:
+                    step("copy")
+                yield line
+        return old(self, stepped())
+    kind.copy = copy
+
+loader = importlib.machinery.SourceFileLoader("load", {network!r} + "/load")
+module = importlib.util.module_from_spec(importlib.util.spec_from_loader("load", loader))
+loader.exec_module(module)
+module.main()
+print("steps", next(taken) - 1)
+""".format(network=str(NETWORK))
+
+
+def room(prefix):
+    """A folder that goes with the tests."""
+    memory = "/dev/shm" if os.access("/dev/shm", os.W_OK) else None
+    folder = pathlib.Path(tempfile.mkdtemp(prefix=prefix, dir=memory))
+    atexit.register(shutil.rmtree, folder, ignore_errors=True)
+    return folder
+
+
+@functools.cache
+def cluster():
+    made = postgres.Cluster()
+    atexit.register(made.stop)
+    return made
+
+
+@functools.cache
+def network():
+    """The six servers' journals, as they stand after Friday and at the end, with what the servers answered otherwise than
+    the model."""
+    made, folder, others = town.Town(), room("network-"), []
+    for name, server in made.servers.items():
+        home = folder / name
+        home.mkdir()
+        for part, stage in enumerate(("friday", "end")):
+            revised = () if name == town.LACKS else [REVISED]
+            started = running.Server(home, cards=town.CARDS, revised=revised)
+            with started.connect() as gate:
+                for frame in server.sent(part):
+                    answer = gate.ask(frame)
+                    if answer != server.station.answer(frame):
+                        others.append((name, frame.hex(), answer.hex()))
+            started.end()
+            (home / stage).mkdir()
+            shutil.copy(started.journal, home / stage / "station.journal")
+    flip(folder / FLIPPED / "end" / "station.journal")
+    made.fronts[FLIPPED] = made.servers[FLIPPED].fronts[0]
+    return made, folder, others
+
+
+def flip(journal, place=30):
+    """Flips the lowest bit of the moment of a touch."""
+    content = bytearray(journal.read_bytes())
+    content[64 + 64 * place + 16] ^= 1
+    journal.write_bytes(content)
+
+
+def words_of(name, stage, base, *more):
+    """The words of network/load for a server's journal."""
+    first = 1 + town.CARDS * list(town.SERVERS).index(name)
+    journal = network()[1] / name / stage / "station.journal"
+    return [str(word) for word in ("--station", town.SERVERS[name], "--server", name, "--first-card", first, "--journal",
+                                   journal, "--database", base, "--program", PROGRAM, *more, *TABLES)]
+
+
+def call(script, *words, **options):
+    """Runs a script of network/ to its end."""
+    return subprocess.run([NETWORK / script, *map(str, words)], capture_output=True, text=True, timeout=TIME, **options)
+
+
+def load(name, stage, base, *more):
+    return call("load", *words_of(name, stage, base, *more))
+
+
+def driven(where, what, words):
+    """network/load with a kill or a hold at a step."""
+    return subprocess.Popen([PYTHON, "-c", DRIVER, str(where), what, *words], stdin=subprocess.PIPE,
+                            stdout=subprocess.PIPE, stderr=subprocess.PIPE, text=True)
+
+
+def everything(name):
+    """All that a database holds, but for the times of loads: the rows of each table, by its name. Partitions count."""
+    with contextlib.closing(database.connect(name)) as base:
+        if isinstance(base, database.Postgres):
+            tables = base.rows("SELECT relname AS name FROM pg_class WHERE relkind IN ('r', 'p')"
+                               " AND relnamespace = 'public'::regnamespace")
+        else:
+            tables = base.rows("SELECT name FROM sqlite_master WHERE type = 'table'")
+        found = {}
+        for table in sorted(row["name"] for row in tables):
+            columns, rows = base.table(f"SELECT * FROM {table}")
+            keep = [place for place, column in enumerate(columns) if column != "loaded"]
+            found[table] = sorted(tuple(row[place] for place in keep) for row in rows)
+        return found
+
+
+class OnPostgres:
+    """The database of a test, in PostgreSQL."""
+
+    @classmethod
+    def ready(cls):
+        why = postgres.why_not() or (database.psycopg2 is None and "psycopg2 isn't here (apt-get install python3-psycopg2)")
+        if why:
+            raise unittest.SkipTest(why)
+
+    @staticmethod
+    def fresh(name):
+        return cluster().database(name)
+
+
+class OnSqlite:
+    """The database of a test, in SQLite."""
+
+    @classmethod
+    def ready(cls):
+        pass
+
+    @staticmethod
+    def fresh(name):
+        return str(room("network-sqlite-") / f"{name}.db")
+
+
+class DatabaseTest(harness.ProgramTest):
+    """Tests over one of the two databases."""
+
+    @classmethod
+    def setUpClass(cls):
+        super().setUpClass()
+        cls.ready()
+        cls.town, cls.folder, cls.others = network()
+
+    def asked(self, base, text, **values):
+        with contextlib.closing(database.connect(base)) as opened:
+            return opened.table(text, **values)[1]
