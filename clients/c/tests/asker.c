@@ -1,0 +1,161 @@
+/* A gate that is told on standard input what to ask, for scripts/gate-library. It knows the library by its header
+   alone.
+
+       asker create FILE GATE CAPACITY
+       asker open FILE GATE ADDRESS,.. LIMIT PATIENCE BACKOFF_FIRST BACKOFF_MOST
+       asker words                     the words for each code, of a verdict, a fault, a result and a file's cause
+       asker null                      what every call answers to NULL
+
+   A line asks one thing: "in CARD STATION MOMENT", "out CARD STATION MOMENT", "top-up CARD PENCE MOMENT",
+   "issue CARD MOMENT", "revise DIGEST DAY MOMENT", "enquire CARD", "resend", "waiting", "settled", "room", "error".
+   Each is answered by a line of numbers: of a touch "RESULT NUMBER VERDICT FAULT CHANGE BALANCE", of an enquiry "RESULT
+   STATE FAULT BALANCE FRONT". What create and open came to is a line "CAUSE PLACE ERROR". */
+#include <stdio.h>
+#include <stdlib.h>
+#include <string.h>
+
+#include "bovtrila_gate.h"
+
+static int tell_file(bovtrila_file file)
+{
+    printf("%d %lu %d\n", (int)file.cause, (unsigned long)file.place, file.error);
+    fflush(stdout);
+    return file.cause != BOVTRILA_FILE_OK;
+}
+
+static void tell(bovtrila_answer answer)
+{
+    printf("%d %lu %u %u %ld %lld\n", (int)answer.result, (unsigned long)answer.number, answer.verdict, answer.fault,
+           (long)answer.change, (long long)answer.balance);
+}
+
+static void tell_holding(bovtrila_holding holding)
+{
+    printf("%d %u %u %lld %lu\n", (int)holding.result, holding.state, holding.fault, (long long)holding.balance,
+           (unsigned long)holding.front);
+}
+
+static void tell_touch(const bovtrila_touch *touch)
+{
+    printf("%d %lu %lu %lu %lu %u %ld ", (int)touch->kind, (unsigned long)touch->number, (unsigned long)touch->card,
+           (unsigned long)touch->moment, (unsigned long)touch->pence, touch->station, (long)touch->day);
+    for (size_t i = 0; i < sizeof touch->digest; i++)
+        printf("%02x", touch->digest[i]);
+    printf("\n");
+}
+
+static uint32_t number(const char *word)
+{
+    return (uint32_t)strtoul(word, NULL, 10);
+}
+
+static bovtrila_answer revise(bovtrila_gate *gate, const char *digits, const char *day, const char *moment)
+{
+    uint8_t digest[32];
+    unsigned byte;
+
+    for (size_t i = 0; i < sizeof digest; i++)
+        digest[i] = sscanf(digits + 2 * i, "%2x", &byte) == 1 ? (uint8_t)byte : 0;
+    return bovtrila_revise(gate, digest, (int32_t)strtol(day, NULL, 10), number(moment));
+}
+
+/* Every call with NULL: the results in a line. */
+static void ask_nothing(void)
+{
+    bovtrila_options options = {0};
+    bovtrila_gate *gate = NULL;
+
+    bovtrila_close(NULL);
+    printf("%d %d %d ", bovtrila_touch_in(NULL, 1, 1, 1).result, bovtrila_touch_out(NULL, 1, 1, 1).result,
+           bovtrila_top_up(NULL, 1, 1, 1).result);
+    printf("%d %d %d ", bovtrila_issue(NULL, 1, 1).result, bovtrila_revise(NULL, NULL, 1, 1).result,
+           bovtrila_resend(NULL).result);
+    printf("%d %d %d ", bovtrila_enquire(NULL, 1).result, bovtrila_create(NULL, 1, 1).cause,
+           bovtrila_open(&options, &gate).cause);
+    printf("%d %d %d %lu %d\n", bovtrila_open(&options, NULL).cause, bovtrila_waiting(NULL, NULL),
+           bovtrila_settled(NULL).answer.result, (unsigned long)bovtrila_room(NULL), bovtrila_last_error(NULL));
+}
+
+/* The words for each code: a line each. */
+static void tell_words(void)
+{
+    for (unsigned code = 0; code < 256; code++)
+        printf("%u %s|%s|%s|%s\n", code, bovtrila_verdict_text((uint8_t)code), bovtrila_fault_text((uint8_t)code),
+               bovtrila_result_text((enum bovtrila_result)code), bovtrila_file_text((enum bovtrila_file_cause)code));
+}
+
+/* Asks what a line says, and tells what it came to. */
+static void ask(bovtrila_gate *gate, char **words)
+{
+    bovtrila_touch touch;
+
+    if (strcmp(words[0], "in") == 0)
+        tell(bovtrila_touch_in(gate, number(words[1]), (uint16_t)number(words[2]), number(words[3])));
+    else if (strcmp(words[0], "out") == 0)
+        tell(bovtrila_touch_out(gate, number(words[1]), (uint16_t)number(words[2]), number(words[3])));
+    else if (strcmp(words[0], "top-up") == 0)
+        tell(bovtrila_top_up(gate, number(words[1]), number(words[2]), number(words[3])));
+    else if (strcmp(words[0], "issue") == 0)
+        tell(bovtrila_issue(gate, number(words[1]), number(words[2])));
+    else if (strcmp(words[0], "revise") == 0)
+        tell(revise(gate, words[1], words[2], words[3]));
+    else if (strcmp(words[0], "enquire") == 0)
+        tell_holding(bovtrila_enquire(gate, number(words[1])));
+    else if (strcmp(words[0], "resend") == 0)
+        tell(bovtrila_resend(gate));
+    else if (strcmp(words[0], "room") == 0)
+        printf("%lu\n", (unsigned long)bovtrila_room(gate));
+    else if (strcmp(words[0], "error") == 0)
+        printf("%d\n", bovtrila_last_error(gate));
+    else if (strcmp(words[0], "waiting") == 0 && bovtrila_waiting(gate, &touch))
+        tell_touch(&touch);
+    else if (strcmp(words[0], "settled") == 0) {
+        bovtrila_settlement settled = bovtrila_settled(gate);
+        tell_touch(&settled.touch);
+        tell(settled.answer);
+    } else
+        printf("none\n");
+    fflush(stdout);
+}
+
+int main(int argc, char **argv)
+{
+    static char empty[] = "", in[4096], out[4096];
+    bovtrila_options options = {0};
+    bovtrila_gate *gate;
+    const char *addresses[BOVTRILA_ADDRESSES];
+    char line[256];
+
+    /* Buffers of its own: what memory is taken is the library's then. */
+    setvbuf(stdin, in, _IOFBF, sizeof in);
+    setvbuf(stdout, out, _IOFBF, sizeof out);
+    if (argc == 5 && strcmp(argv[1], "create") == 0)
+        return tell_file(bovtrila_create(argv[2], (uint16_t)number(argv[3]), number(argv[4])));
+    if (argc == 2 && strcmp(argv[1], "words") == 0)
+        tell_words();
+    if (argc == 2 && strcmp(argv[1], "null") == 0)
+        ask_nothing();
+    if (argc != 9)
+        return argc != 2;
+    options.file = argv[2];
+    options.gate = (uint16_t)number(argv[3]);
+    for (char *each = strtok(argv[4], ","); each != NULL && options.address_count < BOVTRILA_ADDRESSES;
+         each = strtok(NULL, ","))
+        addresses[options.address_count++] = each;
+    options.addresses = addresses;
+    options.limit = number(argv[5]);
+    options.patience = number(argv[6]);
+    options.backoff_first = number(argv[7]);
+    options.backoff_most = number(argv[8]);
+    if (tell_file(bovtrila_open(&options, &gate)))
+        return 1;
+    while (fgets(line, sizeof line, stdin) != NULL) {
+        char *words[4] = {empty, empty, empty, empty};
+        size_t count = 0;
+        for (char *each = strtok(line, " \n"); each != NULL && count < 4; each = strtok(NULL, " \n"))
+            words[count++] = each;
+        ask(gate, words);
+    }
+    bovtrila_close(gate);
+    return 0;
+}
