@@ -5,6 +5,7 @@ ANSWERS, and a new code's words into VERDICTS or FAULTS.
 """
 import argparse
 import collections
+import datetime
 import pathlib
 import socket
 import struct
@@ -104,6 +105,54 @@ def in_words(request, answer):
         balance, front = number_at(answer, 4, 8, signed=True), number_at(answer, 12, 4)
         return f"{card}{state}; balance {balance}, after {front} touches"
     return f"fault {answer[3]}: {FAULTS.get(answer[3], 'unknown')}"
+
+
+KINDS = {model.ENTER: "touch in", model.LEAVE: "touch out", model.TOP_UP: "top-up", model.ISSUE: "issue",
+         model.ENQUIRE: "enquiry", model.REVISE: "revision"}
+FIELDS = {model.ENTER: "gate number card station moment", model.LEAVE: "gate number card station moment",
+          model.TOP_UP: "gate number card pence moment", model.ISSUE: "gate number card moment",
+          model.REVISE: "gate number card digest day moment", model.ENQUIRE: "card",
+          model.REPLY: "gate number verdict change balance", model.HOLDING: "state balance front",
+          model.FAULT: "code gate number"}
+ANSWER_FORMS = {model.REPLY: ">BHIBiq", model.HOLDING: ">BBqI", model.FAULT: ">BBHI"}
+ANSWER_KINDS = {model.REPLY: "reply", model.HOLDING: "enquiry answer", model.FAULT: "fault"}
+# What a field's number stands for.
+MEANINGS = {"verdict": VERDICTS, "state": STATES, "code": FAULTS}
+
+
+def fields_of(frame):
+    """The fields of a frame behind its kind, by their names."""
+    form = model.FORMS.get(frame[2]) or ANSWER_FORMS[frame[2]]
+    _, *values = struct.unpack(form, frame[2:])
+    return dict(zip(FIELDS[frame[2]].split(), values, strict=True))
+
+
+def value_in_words(name, value):
+    """A field's value, with what it stands for."""
+    if name == "digest":
+        return value.hex()
+    if name == "moment":
+        clock = datetime.datetime.fromtimestamp(value, datetime.timezone.utc)
+        return f"{value} ({clock:%Y-%m-%d %H:%M:%S} UTC)"
+    said = MEANINGS.get(name, {}).get(value)
+    return f"{value} ({said})" if said else str(value)
+
+
+def fields(frame):
+    """A whole frame by its kind and its fields."""
+    kind = KINDS.get(frame[2]) or ANSWER_KINDS[frame[2]]
+    return f"{kind}: " + ", ".join(f"{name} {value_in_words(name, value)}" for name, value in fields_of(frame).items())
+
+
+def differences(got, wanted):
+    """What is otherwise in an answer than in the wanted one."""
+    if got[2] != wanted[2]:
+        return f"is {fields(got)}. It should be {fields(wanted)}"
+    right = fields_of(wanted)
+    other = [f"{name} {value_in_words(name, value)} and should have {value_in_words(name, right[name])}"
+             for name, value in fields_of(got).items() if value != right[name]]
+    name = f" to {gate_and_number(name_of(wanted))}" if wanted[2] != model.HOLDING else ""
+    return f"({ANSWER_KINDS[wanted[2]]}{name}) has " + "; ".join(other)
 
 
 def address(text):
