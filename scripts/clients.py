@@ -181,8 +181,11 @@ class Careful:
             self.opens.append(told[1])
 
     def settle(self, asker, told):
-        """Sends what waits again, until there is a reply."""
+        """Sends what waits again, until there is a reply. A server that is gone doesn't hold it up for good."""
+        until = time.monotonic() + TIME
         while told[0] in WAITS:
+            if time.monotonic() > until:
+                raise Gone(f"no reply within {TIME} seconds, and the gate says {told}")
             told = asker.ask("resend")
         if told[0] not in REPLIES:
             raise Gone(f"the gate says {told}")
