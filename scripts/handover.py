@@ -1,0 +1,187 @@
+"""What stands between an old journal and the one that follows it: the folder in which it is kept, what each card holds,
+which fare table counts, and the page at the end. For scripts/next-journal.
+"""
+import csv
+import datetime
+import hashlib
+import io
+import json
+import shutil
+
+import model
+import serving
+import wire
+from wire import Wrong
+
+# How many cards of a kind the page names, and how many requests wait for their answers at once.
+MOST, WINDOW = 20, 64
+# Why something isn't carried, and what to do.
+OWED = "a debt isn't carried: the card is issued and holds 0. Collect it by hand, or let it go"
+LEFT = "above the balance limit. Pay it out, or top the card up once there is room for it"
+INSIDE = ("the journey isn't carried, but the balance after its entry charge is. A touch out in the new journal is "
+          "charged a maximum beside it: pay back what is over the fare")
+DAYS = ("the days under way: what was charged on them doesn't count towards caps in the new journal, and no journey "
+        "goes on at an interchange")
+
+
+class Work:
+    """The folder of a handover. Each file in it is written whole; what is there was done and checked."""
+
+    def __init__(self, folder, owner):
+        self.folder, self.owner = folder, owner
+
+    def __truediv__(self, name):
+        return self.folder / name
+
+    def has(self, *names):
+        return all((self.folder / name).exists() for name in names)
+
+    def read(self, name):
+        return (self.folder / name).read_text()
+
+    def write(self, name, content):
+        serving.write(self.folder / name, content, 0o640, self.owner.ids)
+
+    def plan(self, asked):
+        """What was asked for when it was begun, which has to be what is asked for now."""
+        if not self.has("plan.json"):
+            self.write("plan.json", json.dumps(asked, indent=1) + "\n")
+        plan = json.loads(self.read("plan.json"))
+        for name, value in asked.items():
+            if plan.get(name) != value and name not in ("moment", "new", "words"):
+                raise Wrong(f"{self.folder} was begun with {name} {plan.get(name)}, not {value}: give the same words, "
+                            "or remove that folder and begin again")
+        return plan
+
+
+def copy(old, new, owner):
+    """Copies a file whole, and compares the two."""
+    beside = new.with_name(new.name + ".new")
+    shutil.copyfile(old, beside)
+    owner.take(beside, 0o640)
+    serving.sync(beside)
+    digests = []
+    for path in (old, beside):
+        with open(path, "rb") as file:
+            digests.append(hashlib.file_digest(file, "sha256").digest())
+    if digests[0] != digests[1]:
+        raise Wrong(f"{new}: the copy isn't {old}; is something writing it?")
+    beside.replace(new)
+    serving.sync(new.parent)
+
+
+def sums_of(text):
+    """The numbers behind the names of lines as `cards 392`."""
+    found = {}
+    for line in text.splitlines():
+        name, _, value = line.partition(" ")
+        if value.lstrip("-").isdecimal():
+            found[name] = int(value)
+    return found
+
+
+def balances_of(text):
+    """What each card of a table of `balances` holds, and whether it is inside."""
+    rows = csv.DictReader(io.StringIO(text, newline=""))
+    return {int(row["card"]): (int(row["balance"]), row["state"] == "inside") for row in rows}
+
+
+def carried_of(balance, limit):
+    """How much of a balance is carried: none of a debt, and nothing above the limit."""
+    return min(max(balance, 0), limit)
+
+
+def tables_of(lines, tables, moment):
+    """Which table is in force at a moment, and which come later with the days from which they count, by the rows of a
+    history. The tables are pairs of a name and a path, the first one first."""
+    read = {name: wire.table_of(path) for name, path in tables}
+    names = {table.digest.hex(): name for name, table in read.items()}
+    first = read[tables[0][0]]
+    # The civil time is that of the last table that was read: all tables of a station have one zone.
+    today = datetime.date(1970, 1, 1) + datetime.timedelta(model.Schedule(first).stamp(moment).day)
+    now, later = names[first.digest.hex()], []
+    for line in lines:
+        if ",revision," in line and ",Revised," in line:
+            _, _, day, *_, digest, _, _, _, _ = line.split(",")
+            # A day that the calendar doesn't have is told by its number.
+            is_number, is_early = day.lstrip("-").isdecimal(), day.startswith("-")
+            is_ahead = int(day) > 0 if is_number else not is_early and day > today.isoformat()
+            if is_ahead:
+                later.append((names[digest], day))
+            else:
+                now = names[digest]
+    return {"now": now, "later": later, "limit": read[now].table["balance_limit"]}
+
+
+def differences(old, new, limit):
+    """What is wrong with the cards of the new journal, as sentences."""
+    for card in sorted(old.keys() | new.keys()):
+        if card not in new:
+            yield f"card {card} isn't issued in the new journal"
+        elif card not in old:
+            yield f"card {card} is issued in the new journal alone"
+        elif new[card] != (carried_of(old[card][0], limit), False):
+            yield f"card {card} held {old[card][0]}, and holds {new[card][0]} in the new journal"
+
+
+def answered(line, requests):
+    """The line of each answer that comes over a connection, once it is found to be the right one: each card's first
+    request issues it, and each top-up adds to what it has."""
+    sent, paid = 0, {}
+    for place, request in enumerate(requests):
+        if sent <= place:
+            line.send(*requests[sent : sent + WINDOW])
+            sent += WINDOW
+        fields = wire.fields_of(request)
+        change = fields.get("pence", 0)
+        paid[fields["card"]] = balance = paid.get(fields["card"], 0) + change
+        verdict = 7 if request[2] == model.TOP_UP else 8
+        wanted = model.framed(">BHIBiq", model.REPLY, fields["gate"], fields["number"], verdict, change, balance)
+        answer = line.take()
+        if answer != wanted:
+            said = wire.differences(answer, wanted) if answer else "is missing: the connection ended"
+            raise Wrong(f"line {place + 1} of the requests, {wire.fields(request)}: the answer {said}")
+        yield f"{answer.hex()}  {wire.in_words(request, answer)}\n"
+
+
+def rows(name, why, cards):
+    """The lines of the page on one kind of what isn't carried."""
+    if not cards:
+        return
+    count = f"{len(cards)} card{'s' if len(cards) > 1 else ''}"
+    amount = f"{sum(pence for _, pence in cards)} pence of " if name != "inside" else ""
+    yield f"{name:<9} {amount}{count}: {why}"
+    for card, pence in cards[:MOST]:
+        yield f"          card {card}" + (f": {pence}" if name != "inside" else f", which holds {pence}")
+    if len(cards) > MOST:
+        yield f"          and {len(cards) - MOST} more: the file `left` has them all"
+
+
+def not_carried(old, limit, tables, send):
+    """The lines of the page on what isn't carried, and why."""
+    held = [(card, *what) for card, what in sorted(old.items())]
+    yield from rows("owed", OWED, [(card, -pence) for card, pence, _ in held if pence < 0])
+    yield from rows("left", LEFT, [(card, pence - limit) for card, pence, _ in held if pence > limit])
+    yield from rows("inside", INSIDE, [(card, pence) for card, pence, is_inside in held if is_inside])
+    yield f"days      {DAYS}"
+    for name, day in tables["later"]:
+        yield f"revision  to {name} from {day} on: send it again: {send} --revise {name} --from {day}"
+
+
+def page(handover, send):
+    """The page at the end: what was carried, what wasn't and why."""
+    plan, count, old = handover.plan, len(handover.lines), handover.old.name
+    seal, limit = handover.work.read("seal").split(), handover.found["limit"]
+    numbers = f", numbers {plan['first']} to {plan['first'] + count - 1}" if count else ""
+    return "\n".join([
+        f"{plan['new']} follows {old}.", "",
+        f"carried   {handover.sums['carried']} pence to {len(handover.held)} cards, by {count} requests of gate "
+        f"{plan['gate']}{numbers}, of {plan['moment']}",
+        f"of        {handover.sums['balances']} pence: what was carried and left, less what is owed",
+        f"compared  each card's balance in {plan['new']} with the one in {old}",
+        f"old       {old}: {seal[1]} touches, sealed {seal[2]}",
+        f"new       {plan['new']}: {plan['cards']} cards, room for {plan['capacity'] - count} more touches, fare table "
+        f"{handover.found['now']}", "", "Not carried:",
+        *not_carried(handover.held, limit, handover.found, send), "",
+        "Next: start the gates. First each of them sends the touches that were answered by fault 5.",
+        f"Keep {handover.work.folder} with {old}: nothing else says what wasn't carried.", ""])

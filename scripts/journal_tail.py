@@ -1,0 +1,42 @@
+"""How many touches a journal has, read on from where it was read to: for programs that look again and again."""
+import os
+import struct
+
+import model
+from wire import Wrong
+
+# How many slots are read at a time.
+SLOTS = 4096
+
+
+class Tail:
+    """A journal's file, read alone and without a lock."""
+
+    def __init__(self, path):
+        self.path, self.header, self.touches, self.capacity, self.written = path, None, 0, 0, 0.0
+
+    def read(self):
+        """Reads what came since the last time. A file that is another journal now is read from its beginning."""
+        try:
+            with open(self.path, "rb") as file:
+                header = file.read(model.HEADER)
+                if len(header) < model.HEADER or header[0] != model.MARK or header[1:9] not in model.SLOTS:
+                    raise Wrong(f"{self.path}: this is no journal")
+                status = os.fstat(file.fileno())
+                if (header, status.st_ino) != self.header:
+                    self.header, self.touches = (header, status.st_ino), 0
+                self.capacity, = struct.unpack(">I", header[9:13])
+                self.written = status.st_mtime
+                self.go_on(file, model.SLOTS[header[1:9]])
+        except OSError as error:
+            raise Wrong(f"{self.path}: {error.strerror}") from None
+
+    def go_on(self, file, size):
+        """Counts the slots with an open mark, up to the first closed one."""
+        file.seek(model.HEADER + size * self.touches)
+        while self.touches < self.capacity:
+            marks = file.read(SLOTS * size)[::size]
+            marked = len(marks) - len(marks.lstrip(bytes([model.MARK])))
+            self.touches = min(self.touches + marked, self.capacity)
+            if marked < SLOTS:
+                return
