@@ -23,10 +23,6 @@ LACKS, WRONG, GATE, AHEAD = "alder-2", "birch-2", 3, 7_500
 # Gate and number of the revision.
 STAFF, FIRST_DAY = 65_535, 20_120
 
-ACTS = {model.ENTER: "in", model.LEAVE: "out", model.TOP_UP: "top-up", model.ISSUE: "issue", model.REVISE: "revision"}
-VERDICTS = {1: "Entered", 2: "EnteredContinued", 3: "EnteredOverOpen", 4: "Exited", 5: "ExitedUnstarted",
-            6: "ExitedLate", 7: "ToppedUp", 8: "Issued", 9: "Revised", 20: "UnknownCard", 21: "AlreadyIssued",
-            22: "UnknownStation", 23: "Backwards", 24: "LowBalance", 25: "BadAmount", 26: "OverLimit", 27: "BadDay"}
 MAXIMA = ("EnteredOverOpen", "ExitedUnstarted", "ExitedLate")
 
 Touch = collections.namedtuple("Touch", "station server place moment day gate number card own act station_number pence"
@@ -110,8 +106,9 @@ class Server:
             verdict, change, balance = struct.unpack(">Biq", answer[9:])
             day = act[-1] // DAY if kind == model.REVISE else self.station.schedule.stamp(act[-1]).day
             yield Touch(self.station_name, self.name, place, act[-1], date_text(day), gate, number,
-                        self.first_card + card - 1, card, ACTS[kind], act[0] if kind in (model.ENTER, model.LEAVE) else None,
-                        act[0] if kind == model.TOP_UP else None, VERDICTS[verdict], change, balance, verdict < 20)
+                        self.first_card + card - 1, card, model.ACTS[kind],
+                        act[0] if kind in (model.ENTER, model.LEAVE) else None,
+                        act[0] if kind == model.TOP_UP else None, model.VERDICTS[verdict], change, balance, verdict < 20)
 
 
 class Town:

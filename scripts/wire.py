@@ -174,12 +174,14 @@ def listener(where):
 
 
 class Connection:
-    """A connection to a server, on which each read waits at most so many seconds."""
+    """A connection to a server, through TLS where that is named, on which each read waits at most so many seconds."""
 
-    def __init__(self, where, timeout):
+    def __init__(self, where, timeout, tls=None):
         self.timeout = timeout
         self.socket = socket.create_connection(where, timeout)
         self.socket.setsockopt(socket.IPPROTO_TCP, socket.TCP_NODELAY, 1)
+        if tls is not None:
+            self.socket = tls.over(self.socket, where[0])
 
     def __enter__(self):
         return self

@@ -1,0 +1,187 @@
+"""What a page shows: its commands, each with the lines that stand behind it, and a shell that runs them in turn."""
+import contextlib
+import os
+import pathlib
+import pty
+import re
+import secrets
+import signal
+import socket
+import subprocess
+import threading
+import time
+
+from harness import PROGRAM, TIME, TOP
+
+BLOCK = re.compile(r"^(?P<indent> *)```\n(?P<text>(?P=indent)\$ .*?)^(?P=indent)```$", re.M | re.S)
+
+# What differs from run to run, with what stands in its place where a page is compared with what was said.
+DIFFERS = (
+    ("the time of an answer", re.compile(r"answered in [0-9.]+ ms"), "answered in TIME"),
+    ("a carriage return, which a page can't show", re.compile(r"\r"), ""),
+)
+# The ports of the pages: a free one stands in the place of each.
+PORTS = ("4014", "4015")
+# What a command asks at a terminal, and what is typed behind it.
+ASKED, TYPED = "Type yes: ", "yes\n"
+
+
+class Command:
+    """A command of a page, and the lines that stand behind it there."""
+
+    def __init__(self, page, line, text):
+        self.page, self.line = page, line
+        lines = text.split("\n")
+        size = next(place for place, each in enumerate(lines, 1) if not each.endswith("\\"))
+        self.text, self.shown = "\n".join(lines[:size]), "\n".join(lines[size:])
+
+    def __str__(self):
+        return f"{self.page}, line {self.line}: {self.text}"
+
+    def is_serving(self):
+        """Whether it is a server in a terminal of its own, which goes on while other commands are given."""
+        return " serve " in self.text and not self.text.endswith("&")
+
+
+def blocks(page, text=None):
+    """The blocks of a page that have commands, each a list of them."""
+    text = (TOP / page).read_text() if text is None else text
+    for block in BLOCK.finditer(text):
+        line, found = text.count("\n", 0, block.start()) + 2, []
+        for part in re.split(r"^\$ ", re.sub(f"(?m)^{block['indent']}", "", block["text"]), flags=re.M)[1:]:
+            found.append(Command(page, line, part))
+            line += part.count("\n")
+        yield found
+
+
+def plain(text):
+    """A text without what differs from run to run."""
+    for _, pattern, instead in DIFFERS:
+        text = pattern.sub(instead, text)
+    return text
+
+
+def free_ports(count):
+    """So many ports that nobody listens on."""
+    holders = [socket.create_server(("127.0.0.1", 0)) for _ in range(count)]
+    found = [str(holder.getsockname()[1]) for holder in holders]
+    for holder in holders:
+        holder.close()
+    return found
+
+
+@contextlib.contextmanager
+def limited(process):
+    """Kills a process, and those of its session, where what is done meanwhile takes too long."""
+    timer = threading.Timer(TIME, os.killpg, (process.pid, signal.SIGKILL))
+    timer.start()
+    try:
+        yield
+    finally:
+        timer.cancel()
+
+
+class Shell:
+    """A shell in a folder that looks like the repository, and stays while a page's commands run."""
+
+    def __init__(self, folder, **more):
+        self.folder, self.mark = pathlib.Path(folder), secrets.token_hex(8)
+        self.ports = dict(zip(PORTS, free_ports(len(PORTS))))
+        for name in ("docs", "network", "crates", "clients"):
+            (self.folder / name).symlink_to(TOP / name)
+        (self.folder / "scripts").mkdir()
+        for script in (TOP / "scripts").iterdir():
+            if script.name not in ("bovtrila", "__pycache__"):
+                (self.folder / "scripts" / script.name).symlink_to(script)
+        # The program as it is built: whether scripts/bovtrila has to build it is no question of the pages. Scripts that
+        # look on the path find it there.
+        program, path = self.folder / "scripts" / "bovtrila", self.folder / "bin"
+        program.write_text(f'#!/bin/sh\nexec "{PROGRAM}" "$@"\n')
+        program.chmod(0o755)
+        path.mkdir()
+        (path / "bovtrila").symlink_to(program)
+        self.env = {**os.environ, "PATH": f"{path}:{os.environ['PATH']}"}
+        self.env.update((name, str(value)) for name, value in more.items())
+        self.process = subprocess.Popen(["bash", "--norc"], cwd=self.folder, env=self.env, stdin=subprocess.PIPE,
+                                        stdout=subprocess.PIPE, stderr=subprocess.STDOUT, text=True,
+                                        start_new_session=True)
+        self.tell("shopt -s expand_aliases; trap 'kill $(jobs -p) 2>/dev/null; wait' EXIT; true")
+
+    def end(self):
+        """Ends the shell, and the servers with it."""
+        with limited(self.process), contextlib.suppress(BrokenPipeError):
+            self.process.stdin.close()
+            self.process.wait()
+        self.process.stdout.close()
+
+    def tell(self, text):
+        """Gives the shell a command, and waits for its output: both streams, as a terminal shows them."""
+        (self.folder / ".command").write_text(text + "\n")
+        self.process.stdin.write(f". ./.command </dev/null; s=$?; echo {self.mark}; (exit $s)\n")
+        self.process.stdin.flush()
+        said = ""
+        with limited(self.process):
+            while not said.endswith(self.mark + "\n"):
+                line = self.process.stdout.readline()
+                if not line:
+                    raise AssertionError(f"the shell has ended, or took too long: {text}\n{said}")
+                said += line
+        return said.removesuffix(self.mark + "\n")
+
+    def run(self, command):
+        """Runs a command of a page, and gives what was said, with the page's ports."""
+        text = command.text
+        for port, free in self.ports.items():
+            text = text.replace(f"127.0.0.1:{port}", f"127.0.0.1:{free}")
+        if command.is_serving():
+            said = self.serve(text, command.shown.count("\n"))
+        elif ASKED + TYPED in command.shown:
+            said = self.type(text)
+        else:
+            said = self.tell(text)
+        if command.text.endswith("&"):
+            self.wait_for_listeners()
+        for port, free in self.ports.items():
+            said = said.replace(f"127.0.0.1:{free}", f"127.0.0.1:{port}")
+        return said
+
+    def serve(self, text, lines):
+        """Starts a server, and waits until it has said so many lines, or has ended."""
+        file = self.folder / ".served"
+        file.unlink(missing_ok=True)
+        self.tell(f"{text} >.served 2>&1 &")
+        begun = time.monotonic()
+        while not (file.exists() and file.read_text().count("\n") >= lines):
+            if time.monotonic() > begun + TIME or self.tell("jobs -r") == "":
+                break
+            time.sleep(0.05)
+        # What it says beyond those lines would follow at once.
+        time.sleep(0.2)
+        return file.read_text()
+
+    def type(self, text):
+        """Runs a command at a terminal, and types behind what is asked there."""
+        ours, its = pty.openpty()
+        process = subprocess.Popen(["bash", "-c", text], cwd=self.folder, env=self.env, stdin=its, stdout=its,
+                                   stderr=its, start_new_session=True)
+        os.close(its)
+        said, typed = "", False
+        # Where the other end is closed, reading a terminal is an error.
+        with open(ours, "r+b", buffering=0) as terminal, contextlib.suppress(OSError), limited(process):
+            while piece := terminal.read(4096):
+                said += piece.decode()
+                if said.endswith(ASKED) and not typed:
+                    typed = bool(terminal.write(TYPED.encode()))
+        process.wait(TIME)
+        return said
+
+    def wait_for_listeners(self):
+        """Waits until each port of the last command takes a connection."""
+        begun, text = time.monotonic(), (self.folder / ".command").read_text()
+        for port in self.ports.values():
+            while port in text and time.monotonic() < begun + TIME:
+                try:
+                    socket.create_connection(("127.0.0.1", int(port)), TIME).close()
+                    break
+                except ConnectionRefusedError:
+                    time.sleep(0.05)
