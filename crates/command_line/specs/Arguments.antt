@@ -1,4 +1,4 @@
--- Which command lines are allowed (docs/OPERATING.md; this project's choice).
+-- Which command lines are allowed (docs/COMMANDS.md; this project's choice).
 use Rattle.std.specs.Prelude.{◌≡◌, ◌≤◌, ℕ, IfSome, length}
 use Rattle.command_line.specs.declared.arguments.Arguments.{Arguments}
 use Rattle.command_line.specs.declared.arguments.Arguments.TheVariants as asked

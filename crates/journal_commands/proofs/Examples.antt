@@ -1,4 +1,4 @@
--- Worked examples, computed by the definitions: lines of docs/OPERATING.md, "Faults" and "migrate".
+-- Worked examples, computed by the definitions: lines of docs/FAULTS.md and docs/COMMANDS.md, "migrate".
 use Rattle.std.proofs.Common.{◌≡◌, refl, Some, codes}
 use Rattle.std.specs.Fmt.{digits}
 use Rattle.journal_audit.specs.declared.fault.AuditFault.TheVariants as audits

@@ -1,4 +1,4 @@
--- Why an audit wasn't made, and what is asked of a journal's seal (docs/OPERATING.md, "Faults" and "verify"; this
+-- Why an audit wasn't made, and what is asked of a journal's seal (docs/FAULTS.md; docs/COMMANDS.md, "verify"; this
 -- project's choice).
 use Rattle.command_line.specs.declared.seal.Seal.{Seal as AskedSeal}
 use Rattle.command_line.specs.declared.seal.Seal.TheVariants as asked

@@ -1,4 +1,4 @@
--- What a fault prints: the line that standard error gets of it (docs/OPERATING.md, "Faults"; this
+-- What a fault prints: the line that standard error gets of it (docs/FAULTS.md, "Faults"; this
 -- project's choice).
 use Rattle.std.specs.Prelude.{ℕ, List, ◌++◌, Option, Some, codes}
 use Rattle.std.specs.Fmt.{decimal}

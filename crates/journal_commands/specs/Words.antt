@@ -1,5 +1,5 @@
 -- What a command over a journal has written where it ends, by the words of its command line
--- (docs/OPERATING.md; this project's choice).
+-- (docs/COMMANDS.md; this project's choice).
 use Rattle.std.specs.Prelude.{◌≡◌, ◌⊎◌, ℕ, List, Option, Some}
 use Rattle.gate_session.specs.Writing.{Wrote}
 use Rattle.reply_book.specs.Tables.{Tables}

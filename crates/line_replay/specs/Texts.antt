@@ -1,4 +1,4 @@
--- What a fault of a run prints (docs/OPERATING.md, "Faults"; this project's choice).
+-- What a fault of a run prints (docs/FAULTS.md, "Faults"; this project's choice).
 use Rattle.std.specs.Prelude.{codes, ℕ, List, ◌++◌}
 use Rattle.std.specs.Fmt.{decimal}
 use Rattle.line_replay.specs.declared.fault.RunFault.{RunFault}

@@ -1,4 +1,4 @@
--- Worked examples, computed by the definitions: the lines of docs/OPERATING.md, "check".
+-- Worked examples, computed by the definitions: the lines of docs/COMMANDS.md, "check".
 use Rattle.std.proofs.Common.{◌≡◌, refl, [], ◌∷◌, false, codes}
 use Rattle.std.specs.Fmt.{digits}
 use Rattle.hex.proofs.OnLiterals.{hex_on_literals}

@@ -1,4 +1,4 @@
--- The line behind that of a fault (docs/OPERATING.md, "Faults"; this project's choice).
+-- The line behind that of a fault (docs/FAULTS.md, "Faults"; this project's choice).
 use Rattle.std.specs.Prelude.{None}
 use Rattle.table_commands.specs.declared.detail.Detail.{Detail}
 

@@ -1,4 +1,4 @@
--- Which bytes a file is said to have given, and why one isn't had (docs/OPERATING.md, "Faults"; this
+-- Which bytes a file is said to have given, and why one isn't had (docs/FAULTS.md, "Faults"; this
 -- project's choice).
 use Rattle.std.specs.Prelude.{ℕ, List}
 use Rattle.line_replay.specs.declared.fault.RunFault.TheVariants as runs

@@ -1,4 +1,4 @@
--- Why a fare table that a command names isn't had (docs/OPERATING.md, "Faults"; this project's choice).
+-- Why a fare table that a command names isn't had (docs/FAULTS.md, "Faults"; this project's choice).
 use Rattle.std.specs.Prelude.{◌≡◌, ℕ, Some}
 use Rattle.fare_table.specs.declared.fares.Fares.{Fares}
 use Rattle.fare_table.specs.declared.fault.TableFault.{TableFault}

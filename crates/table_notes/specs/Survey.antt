@@ -1,4 +1,4 @@
--- What a survey counts, and of which bytes there is one (docs/OPERATING.md, "check"; this project's choice).
+-- What a survey counts, and of which bytes there is one (docs/COMMANDS.md, "check"; this project's choice).
 use Rattle.std.specs.Prelude.{◌≡◌, ℕ, List, [], ◌∷◌, length, codes, Option, Some, None, if◌then◌else◌}
 use Rattle.std.specs.Str.{is_utf8}
 use Rattle.toml.specs.Data.{Data, array, Items, no_items, item, Members, get_member}

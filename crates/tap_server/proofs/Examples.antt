@@ -1,4 +1,4 @@
--- Worked examples, computed by the definitions: lines of docs/OPERATING.md, "Faults".
+-- Worked examples, computed by the definitions: lines of docs/FAULTS.md, "Faults".
 use Rattle.std.proofs.Common.{◌≡◌, refl, Some, codes}
 use Rattle.journal_commands.specs.Told.{told_fault}
 use Rattle.gate_service.specs.declared.fault.ServeFault.TheVariants as serves

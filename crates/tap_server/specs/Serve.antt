@@ -1,4 +1,4 @@
--- Why `serve` ended before its report (docs/OPERATING.md, "Faults"; this project's choice).
+-- Why `serve` ended before its report (docs/FAULTS.md, "Faults"; this project's choice).
 use Rattle.gate_service.specs.declared.fault.ServeFault.{ServeFault}
 use Rattle.gate_service.specs.declared.fault.ServeFault.TheVariants as serves
 use Rattle.line_replay.specs.declared.fault.RunFault.TheVariants as runs

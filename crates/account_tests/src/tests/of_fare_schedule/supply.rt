@@ -169,3 +169,18 @@ fn a_fault_prints_its_number_and_name(rt: HostRuntime) -> Result<(), Fail> {
 fn a_refused_growth_is_memory(rt: HostRuntime) {
     assert_eq!(rt; SupplyFault::from(AllocError), SupplyFault::Memory);
 }
+
+#[test]
+fn a_place_and_a_digest_stand_for_one_table(rt: HostRuntime) {
+    let alloc = rt.alloc();
+    let alone = example(&rt, alloc);
+    assert_same(&rt, alone.place(&REVISED), None);
+    let schedule = revised(&rt, alloc, 20095);
+    for (digest, place) in [(EXAMPLE, Some(0)), (REVISED, Some(1)), ([0; 32], None)] {
+        assert_same_at(&rt, schedule.place(&digest), place, digest);
+    }
+    // Where no table stands it is the first one's.
+    for (place, digest) in [(0, EXAMPLE), (1, REVISED), (2, EXAMPLE), (255, EXAMPLE)] {
+        assert_same_at(&rt, schedule.digest_at(place), digest, place);
+    }
+}
