@@ -19,8 +19,8 @@ const CARD_SIZE: usize = 400;
 const _: () = prove!(size_of::<Card>() <= CARD_SIZE);
 
 /// The account of one card, which keeps running sums: a touch costs the same however many came
-/// before it (docs/FARES.md, "A card and its history").
-#[derive(Debug, Drop)]
+/// before it (docs/FARES.md, "A card and its history"). A copy goes on by itself.
+#[derive(Clone, Copy, Debug)]
 pub struct Card {
     /// How many touches were applied, refused ones among them.
     count: u32,

@@ -12,5 +12,6 @@ pub mod BookLemmas
 pub mod ReplayLemmas
 pub mod ApplyLemmas
 pub mod LawLemmas
+pub mod JudgingLemmas
 pub mod CallerLemmas
 mod Examples

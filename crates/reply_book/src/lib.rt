@@ -6,6 +6,7 @@
 mod book;
 mod entry;
 mod fault;
+mod judged;
 mod kept;
 mod laws;
 mod reached;
@@ -14,6 +15,7 @@ mod replay;
 pub use book::{Book, CARD_LIMIT};
 pub use entry::{Entry, Found};
 pub use fault::ReplayFault;
+pub use judged::JudgedTouch;
 pub use laws::{
     books_grow, finds_exactly, first_for_ever, first_table_alone, legs_take_nothing, one_book,
     refusals_change_nothing, revisions_alone_revise, revisions_are_unseen, travel_never_back,

@@ -63,7 +63,8 @@ impl<N: Named, D: Disk> Office<N, D> {
         self.recovered.count
     }
 
-    /// Takes the lock, and commits a touch as `Keeper::commit` does.
+    /// Takes the lock, and commits a touch as `Keeper::commit` does. The seat makes room for its
+    /// receipt before, so that the lock isn't held meanwhile.
     ///
     /// The receipt's touch is the one that was handed in, and its reply stands beside that touch at
     /// its place in a legal history that begins with the recovered one. A fault leaves the seat.
@@ -77,6 +78,7 @@ impl<N: Named, D: Disk> Office<N, D> {
         ensures note { IfOk result (λ r. IsNote N.opened (told_by r.note) r) }
         ensures kept { OnErr result (seat.new ≡ seat.old) }
     {
+        seat.make_room();
         self.keeper.lock(rt).commit(rt, seat, touch)
     }
 

@@ -88,6 +88,14 @@ impl<N: Named> Seat<N> {
         self.seen
     }
 
+    /// Makes room for one receipt more, where memory is given. A commit then takes none for it, and
+    /// else asks again.
+    pub(crate) fn make_room(&mut self)
+        ensures { self.new ≡ self.old }
+    {
+        let _ = self.receipts.reserve(1);
+    }
+
     /// Whether every receipt stands at its place, as an entry with this seat's number.
     pub(crate) fn stands(&self, book: &Book) -> bool
         ensures stands { IsTrue result ↔ AreAtPlaces (entries_of book.now) self.now }

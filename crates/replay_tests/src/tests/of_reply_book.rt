@@ -190,10 +190,28 @@ fn add_one(rt: &impl Abort, book: &mut Book, row: Row)
     assert_new(rt, book, &touch);
     let stamp = make_ready(rt, book, &touch);
     assert_that(rt, book.has_room(&touch));
-    let foretold = book.judge(&touch, &stamp);
-    assert_same_at(rt, foretold, (reply, view), touch);
+    let judged = book.judge(&touch, &stamp);
+    assert_same_at(rt, (judged.reply, judged.view), (reply, view), touch);
     let added = book.add(&touch, &stamp, 3);
     assert_same_at(rt, added, (place, reply), touch);
+    assert_added(rt, book, place, row);
+}
+
+/// Judges a touch, compares what is foretold, and enters it from seat 3 as it was judged. What is
+/// answered, found and seen is as where it is added.
+fn enter_one(rt: &impl Abort, book: &mut Book, row: Row)
+    requires few { length (entries_of book.old) < 100 }
+    requires stands { Stands book.old }
+    ensures count { length (entries_of book.new) ≡ length (entries_of book.old) + 1 }
+    ensures stands { Stands book.new }
+{
+    let (touch, reply, view) = row;
+    let place = book.len();
+    assert_new(rt, book, &touch);
+    let stamp = make_ready(rt, book, &touch);
+    let judged = book.judge(&touch, &stamp);
+    assert_same_at(rt, (judged.reply, judged.view), (reply, view), touch);
+    assert_same_at(rt, book.enter(&judged, 3), place, touch);
     assert_added(rt, book, place, row);
 }
 
@@ -358,6 +376,24 @@ fn a_touch_of_no_card_is_refused_and_kept(rt: HostRuntime) {
     };
     let row = (stray, reply(20, 0, 0), view(CardState::Vacant, 0));
     add_one(&rt, &mut book, row);
+    drop(book);
+}
+
+#[test]
+fn a_touch_is_entered_as_it_was_judged(rt: HostRuntime) {
+    let mut book = empty_book(&rt, rt.alloc());
+    let [issue, top_up, enter, out] = first_example();
+    enter_one(&rt, &mut book, issue);
+    enter_one(&rt, &mut book, top_up);
+    enter_one(&rt, &mut book, enter);
+    enter_one(&rt, &mut book, out);
+    let stray = Touch {
+        card: 11,
+        ..leave(5, 1)
+    };
+    let row = (stray, reply(20, 0, 0), view(CardState::Vacant, 0));
+    enter_one(&rt, &mut book, row);
+    assert_count(&rt, &book, 5);
     drop(book);
 }
 

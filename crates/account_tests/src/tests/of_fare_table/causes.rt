@@ -1,4 +1,4 @@
-//! A fault of each cause that a text can have. scripts/bad-tables has the others.
+//! A fault of each cause that a text can have. scripts/tests/bad-tables has the others.
 use super::{Change, assert_same, changed};
 use fare_table::{EXAMPLE_TABLE, Fares, Key, TableFault};
 use std::alloc::Global;

@@ -1,5 +1,5 @@
-//! Readings that are refused memory. `scripts/refuse-memory` refuses each allocation of these tests
-//! in turn: the call that met it is made again, and has to answer as with ample memory.
+//! Readings that are refused memory. `scripts/tests/refuse-memory` refuses each allocation of these
+//! tests in turn: the call that met it is made again, and has to answer as with ample memory.
 use super::fares::assert_example;
 use super::{Change, assert_same};
 use fare_table::{EXAMPLE_TABLE, Fares, Key, TableFault};

@@ -86,8 +86,8 @@ fn add_revisions(rt: &impl Abort, book: &mut Book)
     ensures few { length (entries_of book.new) < 20 }
     ensures stands { Stands book.new }
 {
-    add_one(rt, book, revision_row(5, 20094, 27));
-    add_one(rt, book, revision_row(6, 20095, 9));
+    enter_one(rt, book, revision_row(5, 20094, 27));
+    enter_one(rt, book, revision_row(6, 20095, 9));
     add_one(rt, book, revision_row(7, 20095, 27));
 }
 
