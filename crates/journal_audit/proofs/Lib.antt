@@ -1,4 +1,13 @@
 mod Examples
 pub mod NameLemmas
 pub mod AuditLemmas
+pub mod RevisionLemmas
 pub mod LawLemmas
+pub mod CalendarLemmas
+pub mod TellingLemmas
+pub mod HistoryLemmas
+pub mod SumLemmas
+pub mod RowLemmas
+pub mod HoldingLemmas
+pub mod AccountLemmas
+pub mod BalancesLemmas

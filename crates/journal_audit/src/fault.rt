@@ -1,17 +1,17 @@
-//! Why the bytes of a file are no sound journal, or weren't told of.
+//! Why nothing, or only a beginning, was told of a journal.
 
 ghost use Rattle.std.specs.Prelude.{◌≡◌, Some};
 ghost use Rattle.journal_audit.specs.declared.fault.AuditFault.TheVariants as cause;
 ghost use Rattle.journal_audit.specs.Texts.{printed_seal_fault};
 
 use gate_session::WriteFault;
-use std::alloc::AllocError;
+use std::alloc::{AllocError, AllocFailed};
 use std::fmt;
 use tap_journal::JournalFault;
 use thiserror::Error;
 
-/// Why a journal isn't the one that was sealed, in the order in which the causes are looked for. The
-/// printed numbers begin at 1.
+/// Why a journal isn't the one that was sealed, in the order in which the causes are looked for.
+/// The printed numbers begin at 1.
 #[derive(Clone, Copy, Debug, PartialEq, Eq, Error)]
 pub enum SealFault {
     /// The journal has fewer touches than the seal is of.
@@ -20,7 +20,8 @@ pub enum SealFault {
     Changed,
 }
 
-/// Why an audit ended early.
+/// Why a journal wasn't told of to its end. `Seal` comes of an audit alone, and `Place` of
+/// balances.
 #[derive(Clone, Copy, Debug, PartialEq, Eq, Error)]
 pub enum AuditFault {
     /// There was no memory for what is told.
@@ -35,6 +36,13 @@ pub enum AuditFault {
     /// The journal isn't the one that was sealed.
     #[error("{0}")]
     Seal(SealFault),
+    /// The journal has fewer touches than balances were asked for behind: so many.
+    #[error("the journal has {0} touches")]
+    Place(u32),
+    /// What was paid in less what was charged isn't what the card with this number holds. No call
+    /// of this library answers it.
+    #[error("card {0} isn't balanced")]
+    Balance(u32),
 }
 
 /// Prints the fault's number and name: what stands in a fault line behind `fault seal `. It is
@@ -54,6 +62,14 @@ impl From<AllocError> for AuditFault {
     ghost from_gives = { λ _ fault. fault ≡ cause.Memory };
 
     fn from(_error: AllocError) -> AuditFault {
+        AuditFault::Memory
+    }
+}
+
+impl<T: Drop> From<AllocFailed<T>> for AuditFault {
+    ghost from_gives = { λ _ fault. fault ≡ cause.Memory };
+
+    fn from(_error: AllocFailed<T>) -> AuditFault {
         AuditFault::Memory
     }
 }

@@ -1,4 +1,4 @@
-//! The tests of tap_journal, journal_audit, journal_history and journal_balances, in a crate of their own: a module for each.
+//! The tests of tap_journal and journal_audit, in a crate of their own: a module for each.
 #![tactic(auto)]
 
 #[cfg(test)]

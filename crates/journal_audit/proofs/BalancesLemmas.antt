@@ -1,0 +1,106 @@
+-- How a fault of a part is that of the whole.
+use Rattle.std.proofs.Common.{◌≡◌, ◌⊎◌, ℕ, List, [], Option, Some, Err, inl, inr, refl, sym, subst, ap, ◌∙◌}
+use Rattle.std.specs.Prelude.{All}
+use Rattle.reply_book.specs.Tables.{Tables}
+use Rattle.tap_journal.specs.declared.fault.JournalFault.{JournalFault}
+use Rattle.tap_journal.specs.declared.fault.JournalFault.TheVariants.{Memory as MemoryRefused}
+use Rattle.tap_journal.specs.Alone.{HasCauseAlone}
+use Rattle.fare_table.specs.Fares.{digest_of}
+use Rattle.journal_audit.specs.declared.fault.AuditFault.{AuditFault}
+use Rattle.journal_audit.specs.declared.fault.AuditFault.TheVariants.{Memory, Write, Journal, Seal, Place, Balance}
+use Rattle.journal_audit.specs.Balances.{HasRefused, HasWritten, HasRows, AreBalances, HasPlace, touches_before, HasRefusedTouches, AreTouchesOf, IsTooFar}
+use Rattle.journal_audit.specs.declared.balances.row.Row.{Row}
+use Rattle.journal_audit.specs.declared.balances.totals.Totals.{Totals}
+use Rattle.journal_audit.specs.Totals.{totals_of, AreTotalsBalanced}
+use Rattle.journal_audit.specs.BalancesLines.{text_of_rows}
+use Rattle.journal_audit.specs.BalancesRows.{rows_of, IsBalanced}
+use Rattle.oyster_account.specs.declared.reply.Judged.{Judged}
+use Rattle.reply_book.specs.Legal.{book}
+use Rattle.reply_book.specs.Names.{AreNamedOnce}
+use Rattle.reply_book.specs.Tables.{AreKnown}
+use Rattle.journal_audit.specs.Audit.{IsJournal}
+use Rattle.journal_audit.proofs.AccountLemmas.{rows-account}
+use Rattle.oyster_account.specs.declared.touch.Touch.{Touch}
+use Rattle.tap_journal.specs.declared.layout.Format.{Format}
+use Rattle.tap_journal.specs.Layout.{Header}
+
+-- the fault of a reading alone is that of the balances, by the digest of the first table
+pub refused-alone : (tables : Tables) (at : Option ℕ) (bytes digest : List ℕ) (fault : JournalFault)
+    → digest ≡ digest_of tables.first → (fault ≡ MemoryRefused) ⊎ HasCauseAlone (Some digest) bytes fault
+    → HasRefused tables at bytes (Journal fault)
+refused-alone tables at bytes digest fault same (inl refused) = inl refused
+refused-alone tables at bytes digest fault same (inr alone) =
+    inr (inl (subst (λ (d : List ℕ). HasCauseAlone (Some d) bytes fault) same alone))
+
+-- so is that of a place behind the touches
+pub refused-place : (tables : Tables) (at : Option ℕ) (bytes : List ℕ) (format : Format) (h : Header)
+    (touches : List Touch) (fault : AuditFault) → IsJournal (Some tables) bytes format h touches
+    → IsTooFar at touches fault → HasRefused tables at bytes fault
+refused-place tables at bytes format h touches Memory journal far = absurd far
+refused-place tables at bytes format h touches Write journal far = absurd far
+refused-place tables at bytes format h touches (Journal fault) journal far = absurd far
+refused-place tables at bytes format h touches (Seal fault) journal far = absurd far
+refused-place tables at bytes format h touches (Place count) journal far =
+    record { format = format; h = h; touches = touches; place = far.0; journal = journal; named = far.1; fewer = far.2; all = far.3 }
+refused-place tables at bytes format h touches (Balance card) journal far = absurd far
+
+-- and that of entering the touches
+pub refused-touches : (tables : Tables) (at : Option ℕ) (bytes : List ℕ) (h : Header) (touches : List Touch)
+    (fault : AuditFault) → AreTouchesOf tables at bytes h touches → HasRefusedTouches tables touches fault
+    → HasRefused tables at bytes fault
+refused-touches tables at bytes h touches Memory journal refused = tt
+refused-touches tables at bytes h touches Write journal refused = absurd refused
+refused-touches tables at bytes h touches (Journal fault) journal (inl memory) = inl memory
+refused-touches tables at bytes h touches (Journal fault) journal (inr cause) =
+    inr (inr (record { h = h; touches = touches; journal = journal; not_entered = cause }))
+refused-touches tables at bytes h touches (Seal fault) journal refused = absurd refused
+refused-touches tables at bytes h touches (Place count) journal refused = absurd refused
+refused-touches tables at bytes h touches (Balance card) journal refused = absurd refused
+
+-- where bytes are refused nothing is written
+pub refused-nothing : (tables : Tables) (at : Option ℕ) (bytes : List ℕ) (fault : AuditFault)
+    → HasRefused tables at bytes fault → HasWritten tables at bytes [] (Err fault)
+refused-nothing tables at bytes Memory refused = refl
+refused-nothing tables at bytes Write refused = absurd refused
+refused-nothing tables at bytes (Journal fault) refused = (refl, refused)
+refused-nothing tables at bytes (Seal fault) refused = absurd refused
+refused-nothing tables at bytes (Place count) refused = (refl, refused)
+refused-nothing tables at bytes (Balance card) refused = absurd refused
+
+-- ---- the rows after the touches that were entered
+
+pub rows-told : (tables own : Tables) (cards : ℕ) (touches : List Touch) (history : List Judged) (rows : List Row)
+    → own ≡ tables → history ≡ book tables cards touches → AreNamedOnce touches → AreKnown tables touches
+    → rows ≡ rows_of own cards history → All IsBalanced rows → HasRows tables cards touches rows
+rows-told tables own cards touches history rows same are once known is balanced =
+    record {
+      entered = (once, known);
+      are = is ∙ ap (λ (t : Tables). rows_of t cards history) same ∙ ap (λ (h : List Judged). rows_of tables cards h) are;
+      balanced = balanced;
+    }
+
+-- ---- the whole
+
+pub balances-told : (tables : Tables) (at : Option ℕ) (bytes : List ℕ) (format : Format) (h : Header)
+    (all seen touches : List Touch) (rows shown summed : List Row) (text : List ℕ) (totals : Totals)
+    → IsJournal (Some tables) bytes format h all → seen ≡ all → HasPlace at seen → touches ≡ touches_before at seen
+    → HasRows tables h.cards touches rows → shown ≡ rows → summed ≡ rows → text ≡ text_of_rows shown
+    → totals ≡ totals_of summed → AreTotalsBalanced totals → AreBalances tables at bytes text totals
+balances-told tables at bytes format h all seen touches rows shown summed text totals journal same there before has shows sums lines are balanced =
+    record {
+      h = h;
+      touches = touches;
+      journal = record {
+        format = format;
+        all = seen;
+        journal = subst (λ (l : List Touch). IsJournal (Some tables) bytes format h l) (sym same) journal;
+        there = there;
+        before = before;
+      };
+      entered = has.entered;
+      rows = subst (All IsBalanced) has.are has.balanced;
+      accounts = rows-account tables h.cards (book tables h.cards touches) (subst (All IsBalanced) has.are has.balanced);
+      lines = lines ∙ ap text_of_rows (shows ∙ has.are);
+      sums = are ∙ ap totals_of (sums ∙ has.are);
+      balanced = balanced;
+    }

@@ -1,0 +1,16 @@
+use Rattle.std.proofs.Common.{[], rules}
+use Rattle.std.proofs.lemmas.Result.{err_from_is_err_and}
+use Rattle.reply_book.specs.Tables.{tables_in}
+use Rattle.journal_audit.proofs.BalancesLemmas.{refused-nothing}
+use Rattle.journal_audit.proofs.balances.write_balances.Goals as goal
+
+-- nothing was written of bytes that are refused
+pub returns-in_err-text : goal.returns-in_err-text
+returns-in_err-text g c =
+    let p = err_from_is_err_and c.from_residual.result c.from_residual.ensures.1 in
+    record {
+      text = [];
+      appended = search rules;
+      says = rw (p.1, p.2) (refused-nothing (tables_in c.args.schedule) c.args.at c.args.bytes.now
+          c.in_err-text.field-0.0 c.in_err-text.ensures.fault);
+    }

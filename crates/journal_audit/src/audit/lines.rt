@@ -1,0 +1,99 @@
+//! The lines that are told of a sound journal.
+
+ghost use Rattle.std.specs.Prelude.{◌≡◌, ◌≤◌, length, string_bytes, IfOk, Some};
+ghost use Rattle.journal_audit.specs.AuditLines.{header_told, counts_told, text_of_contents};
+ghost use Rattle.journal_audit.specs.AuditLines.{behind_text, seal_text, version_number};
+
+use crate::audit::finding::{finding_of, last_line};
+use crate::audit::seal::Sealed;
+use std::alloc::{AllocError, Global};
+use tap_journal::{Contents, Format};
+
+/// All lines: what was found, the open slots behind the end, those of the revisions, the seal, and
+/// that it is sound, with whether more is to be looked at.
+pub(crate) fn text_of(
+    alloc: Global,
+    found: &Contents,
+    revisions: &[u8],
+    told: &Option<Sealed>,
+) -> Result<Vec<u8>, AllocError>
+    requires { length found.now.touches.items ≤ found.now.capacity }
+    ensures { IfOk result (λ text. text.items
+        ≡ text_of_contents found.now revisions.now told.now) }
+{
+    let header = header_lines(alloc, found)?;
+    let counts = count_lines(alloc, found)?;
+    let behind = behind_line(alloc, found.behind)?;
+    let seal = seal_line(alloc, told)?;
+    let mut text = Vec::new(alloc);
+    text.extend_from_slice(header.as_bytes())?;
+    text.extend_from_slice(counts.as_bytes())?;
+    text.extend_from_slice(behind.as_bytes())?;
+    text.extend_from_slice(revisions)?;
+    text.extend_from_slice(seal.as_bytes())?;
+    text.extend_from_slice(last_line(finding_of(found.behind)).as_bytes())?;
+    Ok(text)
+}
+
+/// The lines of the format and the header.
+fn header_lines(alloc: Global, found: &Contents) -> Result<String, AllocError>
+    ensures { IfOk result (λ text. string_bytes text ≡ header_told found.now) }
+{
+    let version = version_of(found.format);
+    let capacity = found.capacity;
+    let cards = found.cards;
+    let digest = hex::encode(alloc, found.digest)?;
+    format!(in alloc; "version {version}\ncapacity {capacity}\ncards {cards}\ndigest {digest}\n")
+}
+
+/// The lines of how many touches the journal has and can still take, and of how many bytes stand
+/// behind them.
+fn count_lines(alloc: Global, found: &Contents) -> Result<String, AllocError>
+    requires { length found.now.touches.items ≤ found.now.capacity }
+    ensures { IfOk result (λ text. string_bytes text ≡ counts_told found.now) }
+{
+    let touches = found.touches.len();
+    let room = found.capacity as usize - touches;
+    let trailing = found.trailing;
+    format!(in alloc; "touches {touches}\nroom {room}\ntrailing {trailing}\n")
+}
+
+/// The number of a format's version.
+fn version_of(format: Format) -> u32
+    ensures { result ≡ version_number format }
+{
+    match format {
+        Format::First => 1,
+        Format::Second => 2,
+    }
+}
+
+/// The line of open slots behind the end, where there are some.
+fn behind_line(alloc: Global, behind: u32) -> Result<String, AllocError>
+    ensures { IfOk result (λ text. string_bytes text ≡ behind_text behind) }
+{
+    if behind == 0 {
+        Ok(String::new(alloc))
+    } else {
+        format!(in alloc; "behind {behind}\n")
+    }
+}
+
+/// The line of a seal, where there is one.
+fn seal_line(alloc: Global, told: &Option<Sealed>) -> Result<String, AllocError>
+    ensures { IfOk result (λ text. string_bytes text ≡ seal_text told.now) }
+{
+    match told {
+        Some(sealed) => line_of_seal(alloc, sealed),
+        None => Ok(String::new(alloc)),
+    }
+}
+
+/// The line of a seal.
+fn line_of_seal(alloc: Global, sealed: &Sealed) -> Result<String, AllocError>
+    ensures { IfOk result (λ text. string_bytes text ≡ seal_text (Some sealed.now)) }
+{
+    let touches = sealed.touches;
+    let digest = hex::encode(alloc, sealed.digest)?;
+    format!(in alloc; "sealed {touches} {digest}\n")
+}

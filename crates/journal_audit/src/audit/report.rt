@@ -1,0 +1,36 @@
+//! What is told of the bytes of a journal.
+
+ghost use Rattle.std.specs.Prelude.{◌≡◌, [], option_map, IfOk, IfErr, IfSome};
+ghost use Rattle.fare_schedule.specs.Schedule.{revisions_of};
+ghost use Rattle.reply_book.specs.Tables.{tables_in};
+ghost use Rattle.journal_audit.specs.Audit.{IsSound, HasRefused};
+
+use crate::audit::finding::{Finding, finding_of};
+use crate::audit::lines::text_of;
+use crate::audit::revisions::revisions_entered;
+use crate::audit::seal::{Seal, check_seal};
+use crate::fault::AuditFault;
+use crate::touches::first_digest;
+use fare_schedule::Schedule;
+use std::alloc::Global;
+use tap_journal::read_alone;
+
+/// The lines of the sound journal that some bytes are, held against tables where they are named,
+/// and with the seal that was asked for; and what is found of it.
+pub(crate) fn report(
+    alloc: Global,
+    schedule: Option<Schedule>,
+    asked: &Seal,
+    bytes: &[u8],
+) -> Result<(Vec<u8>, Finding), AuditFault>
+    requires { IfSome schedule (λ s. revisions_of s ≡ []) }
+    ensures ok { IfOk result (λ told. IsSound (option_map tables_in schedule) asked.now bytes.now
+        told.0.items told.1) }
+    ensures fault { IfErr result (HasRefused (option_map tables_in schedule) asked.now bytes.now) }
+{
+    let found = read_alone(alloc, bytes, first_digest(&schedule))?;
+    let revisions = revisions_entered(alloc, found.cards, schedule, &found.touches)?;
+    let told = check_seal(asked, found.format, found.touches.len() as u32, bytes)?;
+    let text = text_of(alloc, &found, &revisions, &told)?;
+    Ok((text, finding_of(found.behind)))
+}

@@ -1,7 +1,0 @@
-use Rattle.std.proofs.Common.{◌≡◌, take, string_bytes}
-use Rattle.journal_balances.specs.Lines.{text_of_rows}
-use Rattle.journal_balances.proofs.lines.text_of.Given as goal
-
--- the text is the heading and the lines of the rows so far
-abbrev pub invariant-loop-row : goal.invariant-loop-row
-invariant-loop-row l = string_bytes l.text ≡ text_of_rows (take l.row-index l.rows)

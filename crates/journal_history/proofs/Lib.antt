@@ -1,4 +1,0 @@
-mod Examples
-pub mod CalendarLemmas
-pub mod TellingLemmas
-pub mod HistoryLemmas

@@ -1,0 +1,104 @@
+//! Journals that are held against fare tables.
+
+ghost use Rattle.std.specs.Prelude.{◌≡◌, [], IfSome};
+ghost use Rattle.fare_schedule.specs.Schedule.{revisions_of};
+
+use super::*;
+use fare_table::{EXAMPLE_TABLE, Fares};
+
+/// The digest of the example table's text.
+const EXAMPLE_DIGEST: [u8; 32] =
+    *b"\x17\x08\xbe\xf1\xd8\x12\x4f\x49\x75\x3d\x74\xc2\x9f\xa7\x19\x2b\
+    \x3d\xa7\x03\xa4\x24\x81\xf5\x95\x04\xb7\x6a\x41\xec\x00\x24\x28";
+
+/// The slot of a revision of gate 7 with number 6, from fare day 20095 on, but for the table's digest.
+const REVISION: [u8; 12] = *b"\xa5\x06\x00\x07\x00\x00\x00\x06\x00\x00\x00\x00";
+
+/// A schedule of the example table alone. There is none for want of memory.
+pub(super) fn example(alloc: Global) -> Option<Schedule>
+    ensures { IfSome result (λ schedule. revisions_of schedule ≡ []) }
+{
+    let first = Fares::read(alloc, EXAMPLE_TABLE).ok()?;
+    Schedule::new(alloc, first).ok()
+}
+
+/// The journal of two touches, of the example table.
+pub(super) fn of_example() -> [u8; 193] {
+    let mut bytes = FILE;
+    bytes[17..49].copy_from_slice(&EXAMPLE_DIGEST);
+    bytes
+}
+
+/// The bytes with a piece of them written over, from a place on.
+fn over(bytes: [u8; 193], at: usize, piece: &[u8]) -> [u8; 193] {
+    let mut bytes = bytes;
+    for (place, byte) in piece.iter().enumerate() {
+        if let Some(there) = bytes.get_mut(at.saturating_add(place)) {
+            *there = *byte;
+        }
+    }
+    bytes
+}
+
+/// How the audit of some bytes ends that is held against the example table.
+fn ended(alloc: Global, bytes: &[u8]) -> Option<Result<Finding, AuditFault>> {
+    let schedule = example(alloc)?;
+    let mut written = Vec::new(alloc);
+    Some(audit_journal(alloc, Some(schedule), Seal::Unasked, bytes, &mut written))
+}
+
+#[test]
+fn a_journal_is_held_against_its_first_table(rt: HostRuntime) -> Result<(), Fail> {
+    let alloc = rt.alloc();
+    let wrong = AuditFault::Journal(JournalFault::WrongTable);
+    let sound = Ok(Finding::Sound);
+    assert_same(&rt, ended(alloc, &of_example()).ok_or("tables")?, sound);
+    assert_same(&rt, ended(alloc, &FILE).ok_or("tables")?, Err(wrong));
+    Ok(())
+}
+
+#[test]
+fn the_first_touch_that_no_opening_enters_is_told(rt: HostRuntime) -> Result<(), Fail> {
+    let alloc = rt.alloc();
+    let twice = over(of_example(), 135, &[1]);
+    let damaged = AuditFault::Journal(JournalFault::Damaged(1));
+    assert_same(&rt, ended(alloc, &twice).ok_or("tables")?, Err(damaged));
+    // The second touch is a revision, to the first table and then to one that isn't there.
+    let revised = revised();
+    let sound = Ok(Finding::Sound);
+    assert_same(&rt, ended(alloc, &revised).ok_or("tables")?, sound);
+    let revised = over(revised, 140, &[0]);
+    let missing = AuditFault::Journal(JournalFault::MissingTable(1));
+    assert_same(&rt, ended(alloc, &revised).ok_or("tables")?, Err(missing));
+    // Where no table is named, no revision is looked up.
+    assert_sound(&rt, Seal::Unasked, &revised, "\nsound\n")
+}
+
+/// The journal whose second touch is a revision to the example table, from 2025-01-07 on.
+fn revised() -> [u8; 193] {
+    let digest = over(over(of_example(), 128, &REVISION), 140, &EXAMPLE_DIGEST);
+    over(digest, 172, b"\x00\x00\x4e\x7f\x67\x7b\x8d\x80")
+}
+
+#[test]
+fn revisions_have_their_lines(rt: HostRuntime) -> Result<(), Fail> {
+    let alloc = rt.alloc();
+    let line = "\nrevision 1 2025-01-07 \
+        1708bef1d8124f49753d74c29fa7192b3da703a42481f59504b76a41ec002428";
+    let alone = format!(in alloc; "{line}\nsound\n")?;
+    assert_sound(&rt, Seal::Unasked, &revised(), alone.as_str())?;
+    let schedule = example(alloc).ok_or("tables")?;
+    let mut written = Vec::new(alloc);
+    let ended = audit_journal(
+        alloc,
+        Some(schedule),
+        Seal::Unasked,
+        &revised(),
+        &mut written,
+    );
+    assert_same(&rt, ended, Ok(Finding::Sound));
+    let judged = format!(in alloc; "{line} Revised\nsound\n")?;
+    let text = String::from_utf8(written).ok().ok_or("a text")?;
+    assert_of(&rt, text.as_str(), text.ends_with(judged.as_str()));
+    Ok(())
+}

@@ -1,0 +1,62 @@
+//! A history that is refused memory.
+
+use super::*;
+use std::io;
+use std::io::Write;
+
+/// How often a history that was refused memory is begun again.
+const TRIES: u32 = 10;
+
+/// Takes bytes into an array, without memory.
+#[derive(Drop)]
+struct Room {
+    bytes: [u8; 512],
+    size: usize,
+}
+
+impl Write for Room {
+    fn write(&mut self, buf: &[u8]) -> io::Result<usize> {
+        let rest = self.bytes.get_mut(self.size..).unwrap_or(&mut []);
+        let size = buf.len().min(rest.len());
+        rest[..size].copy_from_slice(&buf[..size]);
+        self.size = self.size.saturating_add(size);
+        Ok(size)
+    }
+
+    fn flush(&mut self) -> io::Result<()> {
+        Ok(())
+    }
+}
+
+/// How the history of the worked journal ends. So short a one stands in one piece: nothing is written
+/// where it was refused memory. There is none where there was no memory for what it is given.
+fn attempt(rt: &impl Abort, alloc: Global) -> Option<Result<(), AuditFault>> {
+    let schedule = example(alloc)?;
+    let bytes = journal(alloc, false, &FRAMES)?;
+    let mut room = Room {
+        bytes: [0; 512],
+        size: 0,
+    };
+    let ended = write_history(alloc, schedule, ALL, HistoryFormat::Csv, bytes, &mut room);
+    let taken = room.bytes.get(..room.size).unwrap_or(&[]);
+    if ended.is_ok() {
+        assert_same(rt, taken.ends_with(b",Exited,550,1650\r\n"), true);
+    } else {
+        assert_same(rt, taken.len(), 0);
+    }
+    Some(ended)
+}
+
+#[test]
+fn a_history_that_was_refused_memory_is_begun_again(rt: HostRuntime) -> Result<(), Fail> {
+    for _ in 0..TRIES {
+        match attempt(&rt, rt.alloc()) {
+            Some(Ok(())) => return Ok(()),
+            None => {}
+            Some(Err(AuditFault::Memory)) => {}
+            Some(Err(AuditFault::Journal(JournalFault::Memory))) => {}
+            Some(Err(fault)) => return Err(fault.into()),
+        }
+    }
+    Err("memory is refused again and again".into())
+}

@@ -1,0 +1,58 @@
+//! Histories of which a write fails.
+
+use super::*;
+use std::io;
+use std::io::{ErrorKind, Write};
+
+/// Takes at most 7 bytes a write and `left` in all, and fails behind them.
+#[derive(Drop)]
+struct Taker {
+    taken: Vec<u8>,
+    left: usize,
+}
+
+impl Write for Taker {
+    fn write(&mut self, buf: &[u8]) -> io::Result<usize> {
+        if self.left == 0 {
+            return Err(io::Error::from(ErrorKind::Other));
+        }
+        let size = self.left.min(buf.len()).min(7);
+        self.taken.extend_from_slice(&buf[..size])?;
+        self.left -= size;
+        Ok(size)
+    }
+
+    fn flush(&mut self) -> io::Result<()> {
+        Ok(())
+    }
+}
+
+/// A writer of so many bytes takes the beginning of the rows, and the history fails where there are
+/// more.
+fn assert_begun<R: Abort + AllocGlobal>(rt: &R, whole: &str, left: usize) -> Result<(), Fail> {
+    let alloc = rt.alloc();
+    let bytes = journal(alloc, false, &FRAMES).ok_or("a journal")?;
+    let schedule = example(alloc).ok_or("a schedule")?;
+    let mut writer = Taker {
+        taken: Vec::new(alloc),
+        left,
+    };
+    let ended = write_history(alloc, schedule, ALL, HistoryFormat::Csv, bytes, &mut writer);
+    let size = whole.len().min(left);
+    assert_same_at(rt, writer.taken.as_slice(), &whole.as_bytes()[..size], left);
+    if left < whole.len() {
+        assert_same_at(rt, ended, Err(AuditFault::Write), left);
+    } else {
+        assert_same_at(rt, ended, Ok(()), left);
+    }
+    Ok(())
+}
+
+#[test]
+fn a_beginning_of_a_history_stands_where_a_write_fails(rt: HostRuntime) -> Result<(), Fail> {
+    let rows = worked_rows(rt.alloc())?;
+    for left in [0, 10, 100, 10_000] {
+        assert_begun(&rt, rows.as_str(), left)?;
+    }
+    Ok(())
+}
