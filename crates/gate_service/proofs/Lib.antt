@@ -3,3 +3,5 @@ pub mod PostLemmas
 pub mod ServingLemmas
 pub mod ReportLemmas
 pub mod LeftLemmas
+mod DaysLemmas
+mod Examples

@@ -36,6 +36,11 @@ impl Begun {
         self.begun.fetch_add(1, Ordering::Relaxed);
     }
 
+    /// How many have begun.
+    pub(crate) fn count_begun(&self) -> u32 {
+        self.begun.load(Ordering::Relaxed)
+    }
+
     /// What is to be told of the lines: that some haven't begun though they had time to. It is looked
     /// at once.
     pub(crate) fn notice<R: Clock>(&self, rt: &R) -> Option<Notice> {

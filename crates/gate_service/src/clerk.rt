@@ -36,10 +36,13 @@ impl<N: Named, D: Disk, T: Watch> Clerk for OfficeClerk<'_, N, D, T> {
         let watch = self.watch;
         match self.office.submit(rt, self.seat, touch) {
             Ok(receipt) => {
-                let front = receipt.front;
                 let reply = receipt.reply;
+                let shown = Shown {
+                    entries: receipt.front,
+                    accepted: receipt.fresh && reply.is_accepted(),
+                };
                 self.desk.learn(receipt);
-                watch.answered(front);
+                show(rt, watch, &touch, shown);
                 Answer::Reply {
                     gate: touch.gate,
                     number: touch.number,
@@ -70,4 +73,21 @@ impl<N: Named, D: Disk, T: Watch> Clerk for OfficeClerk<'_, N, D, T> {
             },
         }
     }
+}
+
+/// What a watch is shown of a touch that was answered.
+#[derive(Clone, Copy)]
+struct Shown {
+    /// How many entries the history had then.
+    entries: u32,
+    /// Whether the touch is new, and was accepted.
+    accepted: bool,
+}
+
+/// Shows a watch a touch that was answered.
+fn show<T: Watch, R: Wait>(rt: &R, watch: &T, touch: &Touch, shown: Shown) {
+    if shown.accepted {
+        watch.accepted(rt, touch.gate, touch.moment());
+    }
+    watch.answered(shown.entries);
 }

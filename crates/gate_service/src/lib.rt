@@ -3,11 +3,17 @@
 //! that of `serve_all`: each line keeps its seat and its desk, and counts its sessions.
 #![tactic(auto)]
 
+mod ahead;
 mod begun;
+mod beside;
 mod clerk;
+mod days;
 mod fault;
 mod gate_line;
+mod looks;
 mod notice;
+mod notices;
+mod pace;
 mod post;
 mod posts;
 mod report;
@@ -17,7 +23,8 @@ mod tally;
 pub use clerk::OfficeClerk;
 pub use fault::ServeFault;
 pub use gate_line::{GateLine, TcpLines};
-pub use notice::{Lines, Notice, Notices, Watch};
+pub use notice::{Lines, Notice, Standing, Watch};
+pub use notices::{Notices, Watched};
 pub use post::{Post, serve_all};
 pub use posts::{make_posts, new_post, seats_of, tallies_of};
 pub use report::{write_opened, write_report};

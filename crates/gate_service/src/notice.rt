@@ -1,14 +1,12 @@
-//! What is told while a server runs: its disk has failed, its journal is full, or nearly so, or fewer
-//! of its lines serve than were asked for.
+//! What is told while a server runs: its disk has failed, its journal is full, or nearly so, fewer of
+//! its lines serve than were asked for, gates wait for a line, a gate is ahead, or how it stands.
 
 ghost use Rattle.std.specs.Prelude.{◌≡◌, ◌↔◌, ◌≤◌, IsTrue};
 ghost use Rattle.gate_service.specs.Notice.{IsNearlyFull, notice_of};
 
-use crate::begun::Begun;
-use std::sync::atomic::{AtomicBool, AtomicU32, Ordering};
-use std::time::Clock;
+use jiff::civil::Date;
+use std::sync::Wait;
 use tap_office::SubmitFault;
-use tcp_line::Unhindered;
 use thiserror::Error;
 
 /// What befalls a server. It prints as the line that is told. A number of entries is how many its history
@@ -27,10 +25,38 @@ pub enum Notice {
     /// So many lines serve, of so many that were asked for: no thread could be made for the others.
     #[error("lines {0} of {1}")]
     Lines(u32, u32),
+    /// A gate waits while each of the lines, which are so many, has another one.
+    #[error("all lines taken {0}")]
+    AllTaken(u32),
+    /// No gate waits for a line any more.
+    #[error("lines free")]
+    Free,
+    /// A touch of this gate was accepted whose fare day is far above those of all other gates.
+    #[error("ahead {0} {1}")]
+    Ahead(u16, Date),
+    /// How it stands.
+    #[error("{0}")]
+    Standing(Standing),
 }
 
-/// Who watches over a server: its lines and its clerks say what they see, once for each connection and
-/// for each touch.
+/// How a server stands.
+#[derive(Clone, Copy, Debug, PartialEq, Eq, Error)]
+#[error("touches {touches} room {room} taken {taken} of {lines} connections {connections}")]
+pub struct Standing {
+    /// How many entries its history has.
+    pub touches: u32,
+    /// For how many more its journal has room.
+    pub room: u32,
+    /// How many of its lines have a gate.
+    pub taken: u32,
+    /// How many lines it has.
+    pub lines: u32,
+    /// How many connections it took up since it started.
+    pub connections: u64,
+}
+
+/// Who watches over a server: its lines and its clerks say what they see, for each connection and
+/// each touch.
 pub trait Watch {
     /// A line has begun: it takes up connections from now on.
     fn begun(&self);
@@ -41,110 +67,26 @@ pub trait Watch {
     /// A touch was answered, when the history had so many entries.
     fn answered(&self, entries: u32);
 
+    /// A new touch of this gate was accepted. Its moment is in seconds since 1970-01-01 00:00:00 UTC.
+    fn accepted<W: Wait>(&self, rt: &W, gate: u16, moment: u32);
+
     /// A touch was refused.
     fn refused(&self, fault: SubmitFault);
+
+    /// It is time to look around, as it is about once a second.
+    fn look<W: Wait>(&self, rt: &W);
 }
 
-/// What ends the lines of a server.
+/// The lines of a server.
 pub trait Lines {
     /// Ends them: each answers what its gate has sent, and takes up no other.
     fn end(&self);
-}
 
-/// A watch that tells each kind of notice once, on standard error, and has the lines end once the disk
-/// has failed.
-#[derive(Drop)]
-pub struct Notices<'a, R, L> {
-    /// What it tells by.
-    rt: &'a R,
-    /// The lines that end where the disk has failed. Without them all go on.
-    lines: Option<&'a L>,
-    /// The lines, as far as they have begun.
-    begun: Begun,
-    /// How many entries the journal has room for.
-    capacity: u32,
-    /// The most entries that were seen.
-    entries: AtomicU32,
-    /// Which kinds were told.
-    halted: AtomicBool,
-    full: AtomicBool,
-    nearly_full: AtomicBool,
-}
+    /// How many of them wait for a gate.
+    fn waiting(&self) -> u32;
 
-impl<'a, R: Clock + Eprint, L: Lines> Notices<'a, R, L> {
-    /// A watch that has told nothing, over so many lines that can begin now, and an office of this
-    /// capacity that opened with so many entries.
-    pub fn new(
-        rt: &'a R,
-        lines: Option<&'a L>,
-        asked: u32,
-        capacity: u32,
-        opened: u32,
-    ) -> Notices<'a, R, L> {
-        Notices {
-            rt,
-            lines,
-            begun: Begun::new(rt, asked),
-            capacity,
-            entries: AtomicU32::new(opened),
-            halted: AtomicBool::new(false),
-            full: AtomicBool::new(false),
-            nearly_full: AtomicBool::new(false),
-        }
-    }
-
-    /// Tells a notice, where this kind wasn't told yet.
-    fn tell(&self, told: &AtomicBool, notice: Notice) {
-        if !told.load(Ordering::Relaxed) && !told.swap(true, Ordering::Relaxed) {
-            self.print(notice);
-        }
-    }
-
-    /// Tells what is to be told of the lines.
-    fn look_at_lines(&self) {
-        if let Some(notice) = self.begun.notice(self.rt) {
-            self.print(notice);
-        }
-    }
-
-    /// Prints a notice. What standard error doesn't take at once is dropped.
-    fn print(&self, notice: Notice) {
-        let _ = Unhindered(self.rt).eprintln(notice);
-    }
-}
-
-impl<R: Clock + Eprint, L: Lines> Watch for Notices<'_, R, L> {
-    fn begun(&self) {
-        self.begun.count();
-    }
-
-    fn connected(&self) {
-        self.look_at_lines();
-    }
-
-    fn answered(&self, entries: u32) {
-        self.look_at_lines();
-        if entries > self.entries.load(Ordering::Relaxed) {
-            self.entries.fetch_max(entries, Ordering::Relaxed);
-        }
-        if is_nearly_full(self.capacity, entries) {
-            self.tell(&self.nearly_full, Notice::NearlyFull(entries));
-        }
-    }
-
-    fn refused(&self, fault: SubmitFault) {
-        let entries = self.entries.load(Ordering::Relaxed);
-        match notice_of(fault, self.capacity, entries) {
-            Some(Notice::Halted(entries)) => {
-                self.tell(&self.halted, Notice::Halted(entries));
-                if let Some(lines) = self.lines {
-                    lines.end();
-                }
-            }
-            Some(Notice::Full(entries)) => self.tell(&self.full, Notice::Full(entries)),
-            _ => {}
-        }
-    }
+    /// Whether a gate waits for a line, and none of them takes it up.
+    fn are_waited_for(&self) -> bool;
 }
 
 /// Whether so many entries are nine tenths of a capacity, or more.

@@ -7,18 +7,18 @@ ghost use Rattle.gate_service.specs.Tally.{IsBelow};
 use crate::post::Post;
 use crate::tally::Tally;
 use std::alloc::{AllocError, Global};
-use std::net::TcpListener;
+use std::net::OpenListener;
 use std::time::Clock;
 use tap_office::{Desk, Named, Seat};
 use tcp_line::TcpLine;
 
 /// The posts of a server: a line like this one for each seat, with its desk.
-pub fn make_posts<'a, N: Named, R: Clock + Eprint>(
+pub fn make_posts<'a, N: Named, R: Clock + Eprint, L: OpenListener>(
     alloc: Global,
-    line: &TcpLine<'a, R, TcpListener>,
+    line: &TcpLine<'a, R, L>,
     seats: Vec<Seat<N>>,
     desks: Vec<Desk<N>>,
-) -> Result<Vec<Post<TcpLine<'a, R, TcpListener>, N>>, AllocError>
+) -> Result<Vec<Post<TcpLine<'a, R, L>, N>>, AllocError>
     ensures { IfOk result (λ posts. All (λ post. IsBelow (2 ^ 62) post.tally) posts.items) }
 {
     let mut posts = Vec::with_capacity(alloc, seats.len())?;

@@ -2,9 +2,11 @@
 
 ghost use Rattle.std.specs.Prelude.{◌≡◌, ◌≤◌, ◌^◌, [], length, vec_capacity, IfOk};
 ghost use Rattle.std.specs.List.{All};
+ghost use Rattle.std.specs.Thread.{IsSync};
 ghost use Rattle.gate_service.specs.Report.{IsTold};
 ghost use Rattle.gate_service.specs.Tally.{IsBelow};
 
+use crate::beside::{Over, look_around};
 use crate::fault::ServeFault;
 use crate::gate_line::GateLine;
 use crate::notice::Watch;
@@ -15,6 +17,7 @@ use crate::tally::Tally;
 use std::alloc::{AllocError, Global};
 use std::io::Write;
 use std::sync::Wait;
+use std::thread;
 use std::thread::Threads;
 use tap_disk::Disk;
 use tap_office::{Named, Office, Seat};
@@ -77,7 +80,7 @@ pub fn serve_office<
     let ready = ready_for(alloc, office, posts)?;
     let _ = rt.eprintln(listening);
     write_opened(output, ready.office.opened())?;
-    let ended = serve_ready(rt, alloc, ready, watch, connections)?;
+    let ended = serve_watched(rt, alloc, ready, watch, connections)?;
     write_report(output, &ended.tallies, ended.halted, ended.entries)?;
     Ok(ended.halted)
 }
@@ -104,7 +107,46 @@ fn ready_for<L: Drop, N: Named, D: Disk + Drop>(
     })
 }
 
-/// Serves the posts of an office, and closes it. It takes no memory of its own.
+/// Serves the posts of an office, and closes it. Beside them a thread looks around, where one can
+/// be made.
+fn serve_watched<
+    L: GateLine + Drop + Send,
+    N: Named + Send + Sync,
+    D: Disk + Drop + Send,
+    T: Watch + Sync,
+    R: Threads + Wait + Sync,
+>(
+    rt: &R,
+    alloc: Global,
+    ready: Ready<L, N, D>,
+    watch: &T,
+    connections: u64,
+) -> Result<Ended, ServeFault>
+    requires below { All (λ post. IsBelow (2 ^ 62) post.tally) ready.posts.items }
+    requires no_seats { ready.seats.items ≡ [] }
+    requires no_tallies { ready.tallies.items ≡ [] }
+    requires seats { length ready.posts.items ≤ vec_capacity ready.seats }
+    requires tallies { length ready.posts.items ≤ vec_capacity ready.tallies }
+{
+    let over = Over::new();
+    // Where no thread can be made the first one runs last, and ends at once.
+    let (_, ended) = thread::join(
+        rt,
+        || look_around(rt, watch, &over),
+        ||
+            requires sync { IsSync R.row }
+            requires below { All (λ post. IsBelow (2 ^ 62) post.tally) ready.posts.items }
+            requires no_seats { ready.seats.items ≡ [] }
+            requires no_tallies { ready.tallies.items ≡ [] }
+            requires seats { length ready.posts.items ≤ vec_capacity ready.seats }
+            requires tallies { length ready.posts.items ≤ vec_capacity ready.tallies }
+        { serve_ready(rt, alloc, ready, watch, connections, &over) },
+    );
+    ended
+}
+
+/// Serves the posts of an office, and closes it. It takes no memory of its own, and says when the
+/// lines have served all.
 fn serve_ready<
     L: GateLine + Drop + Send,
     N: Named + Send + Sync,
@@ -117,6 +159,7 @@ fn serve_ready<
     ready: Ready<L, N, D>,
     watch: &T,
     connections: u64,
+    over: &Over,
 ) -> Result<Ended, ServeFault>
     requires below { All (λ post. IsBelow (2 ^ 62) post.tally) ready.posts.items }
     requires no_seats { ready.seats.items ≡ [] }
@@ -140,6 +183,7 @@ fn serve_ready<
         connections,
         TURNS,
     );
+    over.set();
     let tallies = tallies_of(posts.as_slice(), tallies);
     let (halted, entries) = close_office(rt, office, seats_of(posts, seats))?;
     Ok(Ended {

@@ -4,12 +4,13 @@ ghost use Rattle.tap_office.specs.Name.{IsNameOf};
 ghost use Rattle.tap_office.specs.Opening.{opened_of};
 
 use super::fakes::{Pieces, Taker};
-use super::notices::Unwatched;
+use super::notices::Counting;
 use super::*;
 use gate_service::OfficeClerk;
 use gate_session::{End, Served, serve};
 use std::marker::Brand;
 use std::sync::Wait;
+use std::sync::atomic::{AtomicU64, Ordering};
 use tap_office::{Desk, Named, Office, Seat};
 
 /// The first example: card 1 is issued by gate 7 at 07:50 on Monday, 6 January 2025, topped up by
@@ -70,13 +71,14 @@ fn all_of(bytes: &'static [u8]) -> Trial {
     }
 }
 
-/// What came of a session: what was served, the bytes written, and how many entries an enquiry sees
-/// behind it.
+/// What came of a session: what was served, the bytes written, how many entries an enquiry sees behind
+/// it, and how many touches a watch was shown as accepted.
 #[derive(Drop)]
 struct Outcome {
     served: Served,
     taken: Vec<u8>,
     entries: Option<u32>,
+    accepted: u64,
 }
 
 /// What came of two sessions, and how many entries the history has at the end.
@@ -107,7 +109,9 @@ fn session<N: Named, R: Wait>(
         left: trial.room,
         fails: trial.writer_fails,
     };
-    let watch = Unwatched;
+    let watch = Counting {
+        accepted: AtomicU64::new(0),
+    };
     let served = {
         let mut clerk = OfficeClerk {
             office,
@@ -121,6 +125,7 @@ fn session<N: Named, R: Wait>(
         served,
         taken: writer.taken,
         entries: desk.enquire(1).map(|enquiry| enquiry.front),
+        accepted: watch.accepted.load(Ordering::Relaxed),
     }
 }
 
@@ -307,5 +312,19 @@ fn each_write_that_fails_leaves_what_was_handed_over(rt: HostRuntime) {
         for bytes in first..last {
             fail_write(&rt, bytes, whole);
         }
+    }
+}
+
+/// Card 2, which was never issued, is touched in.
+const REFUSED: &[u8] =
+    b"\x00\x11\x01\x00\x07\x00\x00\x00\x05\x00\x00\x00\x02\x00\x02\x67\x7b\x8d\x80";
+
+#[test]
+fn a_watch_is_shown_each_touch_that_was_accepted_once(rt: HostRuntime) {
+    // neither a repeat nor a refused touch is one more
+    for later in [MORNING, REFUSED] {
+        let outcomes = tried(&rt, all_of(MORNING), all_of(later));
+        assert_same(&rt, outcomes.first.accepted, 4);
+        assert_same(&rt, outcomes.second.accepted, 0);
     }
 }

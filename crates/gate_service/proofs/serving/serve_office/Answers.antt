@@ -7,8 +7,8 @@ use Rattle.gate_service.specs.Tally.{IsBelow}
 use Rattle.gate_service.proofs.serving.serve_office.Goals as goal
 
 -- the posts are those that came in
-pub serve_ready-requires-clause-below : goal.serve_ready-requires-clause-below
-serve_ready-requires-clause-below g c κs within =
+pub serve_watched-requires-clause-below : goal.serve_watched-requires-clause-below
+serve_watched-requires-clause-below g c κs within =
     subst (All (λ post. IsBelow (2 ^ 62) post.tally)) (sym c.in_ok-ready.ensures.posts) c.requires
 
 -- the report stands behind the first line
