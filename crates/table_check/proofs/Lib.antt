@@ -1,2 +1,3 @@
 mod Examples
 pub mod CheckLemmas
+pub mod FareLemmas

@@ -2,10 +2,12 @@
 use Rattle.std.proofs.Common.{◌≡◌, ◌+◌, ◌<◌, ℕ, List, [], ◌∷◌, ◌++◌, map, take, drop, length, get_or, Result, Ok, Err, sym, ap, ◌∙◌, arith}
 use Rattle.std.specs.Prelude.{IfErr, IsErrAnd}
 use Rattle.std.proofs.lemmas.List.{map-append, take_more, take-append-drop, append_assoc, length-map, length-take-le}
-use Rattle.table_commands.specs.Tables.{IsTableIn, AreTablesIn, IsTaken, IsNotTaken, IsFurtherFault}
+use Rattle.table_commands.specs.Tables.{IsTableIn, AreTablesIn, IsTaken, IsNotTaken, IsFurtherFault, IsTableFault, IsTableInFault}
 use Rattle.fare_schedule.specs.Schedule.{tables_of}
 use Rattle.reply_book.specs.Tables.{tables_in}
+use Rattle.line_replay.specs.declared.fault.RunFault.TheVariants as runs
 use Rattle.table_commands.specs.declared.fault.TrialFault.{TrialFault}
+use Rattle.table_commands.specs.declared.fault.TrialFault.TheVariants.{Line, File, Table, Supply, Station, Run}
 use Rattle.fare_schedule.specs.declared.schedule.Schedule.{Schedule}
 use Rattle.fare_table.specs.declared.fares.Fares.{Fares}
 
@@ -79,3 +81,16 @@ first-alone gave first schedule alone =
 pub said-more : {T E : Type 0} {P Q : E → Type 0} (r : Result T E) → ((e : E) → P e → Q e) → IfErr r P → IfErr r Q
 said-more (Ok x) more said = tt
 said-more (Err e) more said = more e said
+
+-- why bytes are no table is why the file that gave them holds none
+pub in-file : (gave : List ℕ → List ℕ → Type 0) (path bytes : List ℕ) → gave path bytes → (fault : TrialFault)
+    → IsTableFault bytes fault → IsTableInFault gave path fault
+in-file gave path bytes given (Line _) is = absurd is
+in-file gave path bytes given (File _) is = absurd is
+in-file gave path bytes given (Table fault _) is = (bytes, given, is)
+in-file gave path bytes given (Supply _ _ _) is = absurd is
+in-file gave path bytes given (Station _) is = absurd is
+in-file gave path bytes given (Run runs.Memory) is = tt
+in-file gave path bytes given (Run runs.Read) is = absurd is
+in-file gave path bytes given (Run runs.Write) is = absurd is
+in-file gave path bytes given (Run (runs.BadLine _)) is = absurd is

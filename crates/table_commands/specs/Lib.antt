@@ -6,3 +6,5 @@ pub mod Files
 pub mod Tables
 pub mod Replay
 pub mod Check
+pub mod Place
+pub mod Fare

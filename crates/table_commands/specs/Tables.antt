@@ -45,6 +45,12 @@ pub record ForTables (gave : List ℕ → List ℕ → Type 0) (first : Option (
   pub named : AreTablesOf gave first further tables
   pub says : Says tables
 
+-- why bytes are no table: their first fault, or there was no memory
+abbrev pub IsTableFault : List ℕ → TrialFault → Type 0
+IsTableFault bytes (Table fault _) = fault_in bytes ≡ Some fault
+IsTableFault bytes (Run runs.Memory) = Unit {0}
+IsTableFault bytes _ = ⊥
+
 -- why the file of this path gives no table: its first fault, or it isn't had, or there was no memory
 abbrev pub IsTableInFault : (List ℕ → List ℕ → Type 0) → List ℕ → TrialFault → Type 0
 IsTableInFault gave path (Table fault _) =

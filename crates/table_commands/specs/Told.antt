@@ -6,7 +6,7 @@ use Rattle.fare_schedule.specs.Texts.{printed_fault as printed_supply_fault}
 use Rattle.fare_table.specs.Texts.{printed_fault as printed_table_fault}
 use Rattle.line_replay.specs.Texts.{printed_run_fault}
 use Rattle.table_commands.specs.declared.fault.TrialFault.{TrialFault}
-use Rattle.table_commands.specs.declared.fault.TrialFault.TheVariants.{Line, File, Table, Supply, Run}
+use Rattle.table_commands.specs.declared.fault.TrialFault.TheVariants.{Line, File, Table, Supply, Station, Run}
 
 -- the line of a fault: the name of its part, and what that part prints of it; what is said of a
 -- command line is `clap`'s, which doesn't state it
@@ -14,6 +14,7 @@ abbrev pub told_trial : TrialFault → Option (List ℕ)
 told_trial (Line _) = None
 told_trial (File _) = Some (codes "fault file")
 told_trial (Table fault _) = Some (printed_table_fault fault)
-told_trial (Supply fault place) =
+told_trial (Supply fault place _) =
     Some (codes "fault supply " ++ (printed_supply_fault fault ++ (codes " " ++ decimal place)))
+told_trial (Station station) = Some (codes "fault station " ++ decimal station)
 told_trial (Run fault) = Some (printed_run_fault fault)

@@ -18,6 +18,6 @@ trial_fault fault = Table fault no_detail
 -- why the further table of this place isn't taken: its first cause, or there was no memory
 abbrev pub IsSupplyFault : Schedule → Fares → ℕ → TrialFault → Type 0
 IsSupplyFault schedule table place (Run runs.Memory) = Unit {0}
-IsSupplyFault schedule table place (Supply fault told) =
+IsSupplyFault schedule table place (Supply fault told _) =
     (supply_fault schedule table ≡ Some fault) × (told ≡ place)
 IsSupplyFault schedule table place _ = ⊥

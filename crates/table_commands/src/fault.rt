@@ -29,7 +29,9 @@ pub enum TrialFault {
     Table(TableFault, Detail),
     /// The table in the file of this place among the further ones, from 1, is refused beside the
     /// tables before it.
-    Supply(SupplyFault, usize),
+    Supply(SupplyFault, usize, Detail),
+    /// The table hasn't the station of this number, from or to which a journey is asked for.
+    Station(u16),
     /// The run over the input ended early.
     Run(RunFault),
 }
@@ -44,7 +46,8 @@ impl fmt::Display for TrialFault {
             TrialFault::Line(error) => write!(f, "{error}"),
             TrialFault::File(_) => f.write_str("fault file"),
             TrialFault::Table(fault, _) => write!(f, "{fault}"),
-            TrialFault::Supply(fault, place) => write!(f, "fault supply {fault} {place}"),
+            TrialFault::Supply(fault, place, _) => write!(f, "fault supply {fault} {place}"),
+            TrialFault::Station(station) => write!(f, "fault station {station}"),
             TrialFault::Run(fault) => write!(f, "{fault}"),
         }
     }
@@ -56,6 +59,7 @@ impl TrialFault {
         match self {
             TrialFault::File(detail) => detail.line(),
             TrialFault::Table(_, detail) => detail.line(),
+            TrialFault::Supply(_, _, detail) => detail.line(),
             _ => None,
         }
     }

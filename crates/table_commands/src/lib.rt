@@ -4,15 +4,18 @@
 #![tactic(auto)]
 
 mod detail;
+mod fare;
 mod fault;
 mod files;
 mod notes;
+mod place;
 mod refusal;
 mod replay;
 mod tables;
 mod words;
 
 pub use detail::Detail;
+pub use fare::tell_fare;
 pub use fault::{TrialFault, tell_fault};
 pub use files::{SystemFiles, WholeFiles};
 pub use notes::check_file;

@@ -1,6 +1,6 @@
 //! The command `check`: a table's report, and notes on standard error on what is beside it.
 
-ghost use Rattle.std.specs.Prelude.{◌≡◌, ◌⊎◌, IfOk, IfErr, if◌then◌else◌};
+ghost use Rattle.std.specs.Prelude.{◌≡◌, ◌⊎◌, ◌&&◌, not, IfOk, IfErr, if◌then◌else◌};
 ghost use Rattle.std.specs.Process.{exit_status};
 ghost use Rattle.gate_session.specs.Writing.{Wrote};
 ghost use Rattle.line_replay.specs.declared.fault.RunFault.TheVariants.{Memory};
@@ -8,32 +8,35 @@ ghost use Rattle.table_check.specs.Check.{report_of};
 ghost use Rattle.table_commands.specs.Files.{ForFile, IsFileFault};
 ghost use Rattle.table_commands.specs.Check.{IsReported, IsUnreported};
 
-use crate::detail::Said;
+use crate::detail::Detail;
 use crate::fault::TrialFault;
 use crate::files::WholeFiles;
+use crate::tables::table_detail;
+use fare_table::TableFault;
 use line_replay::RunFault;
 use std::alloc::Global;
 use std::io::Write;
 use std::process::ExitCode;
-use table_check::check_bytes;
-use table_notes::{Misread, Survey, SurveyFault, look_over};
+use table_check::{check_bytes, read_table};
+use table_notes::{Survey, SurveyFault, Unknown, look_over};
 
 /// Checks the fare table in a file, and writes what it is. Standard error is told which keys aren't
-/// known, which rows a valid table has beside those of its report, and where a refused one is bad.
-/// What it doesn't take is lost.
+/// known, which prices may not be meant, which rows a valid table has beside those of its report, and
+/// where a refused one is bad, with what may stand there. What it doesn't take is lost.
 ///
-/// The status is 0 for a valid table, else 1. The file is read to its end, and the memory for all
-/// notes is there, before anything is written. A fault is that of the file, want of memory, or a
-/// failed write.
+/// The status is 0 for a valid table, else 1; where notes count, it is 1 for a valid table with notes
+/// as well. The file is read to its end, and the memory for all notes is there, before anything is
+/// written. A fault is that of the file, want of memory, or a failed write.
 pub fn check_file<R: AllocGlobal + Eprint, F: WholeFiles, W: Write>(
     rt: &R,
     files: &F,
     path: &str,
+    notes_count: bool,
     writer: &mut W,
 ) -> Result<ExitCode, TrialFault>
     ensures ok { IfOk result (λ status. ForFile (F.gave files.now) path.now (λ bytes.
         Wrote (W.contents writer.old) (W.contents writer.new)
-        (λ text. IsReported (report_of bytes) text (exit_status status)))) }
+        (λ text. IsReported (report_of bytes) notes_count text (exit_status status)))) }
     ensures fault { IfErr result (λ fault. (IsFileFault fault × (writer.new ≡ writer.old))
         ⊎ ForFile (F.gave files.now) path.now (λ bytes.
         Wrote (W.contents writer.old) (W.contents writer.new)
@@ -41,28 +44,50 @@ pub fn check_file<R: AllocGlobal + Eprint, F: WholeFiles, W: Write>(
 {
     let alloc = rt.alloc();
     let bytes = files.bytes_in(alloc, path)?;
-    let surveyed = surveyed(alloc, &bytes)?;
+    let survey = surveyed(alloc, &bytes)?;
+    let detail = detail_of(alloc, path, &bytes);
+    let noted = has_notes(&survey);
     let is_valid = check_bytes(alloc, &bytes, writer)?;
-    tell_notes(rt, path, &surveyed, is_valid);
-    Ok(status_of(is_valid))
+    tell_notes(rt, &detail, &survey, is_valid);
+    Ok(status_of(is_valid, notes_count && noted))
 }
 
-/// What a survey of a table's text has found. An `Err` is want of memory.
-fn surveyed(alloc: Global, bytes: &[u8]) -> Result<Result<Survey, Misread>, RunFault>
+/// What a survey of a table's text has found: nothing where it is no document. An `Err` is want of
+/// memory.
+fn surveyed(alloc: Global, bytes: &[u8]) -> Result<Option<Survey>, RunFault>
     ensures { IfErr result (λ fault. fault ≡ Memory) }
 {
     match look_over(alloc, bytes) {
-        Ok(survey) => Ok(Ok(survey)),
-        Err(SurveyFault::Misread(misread)) => Ok(Err(misread)),
+        Ok(survey) => Ok(Some(survey)),
+        Err(SurveyFault::Misread(_)) => Ok(None),
         Err(SurveyFault::Memory) => Err(RunFault::Memory),
     }
 }
 
-/// The status of a check: 0 for a valid table, else 1.
-fn status_of(is_valid: bool) -> ExitCode
-    ensures { exit_status result ≡ (if is_valid then 0 else 1) }
+/// What is told of a table's fault beside its line: nothing of a valid table, and without memory.
+fn detail_of(alloc: Global, path: &str, bytes: &[u8]) -> Detail {
+    match read_table(alloc, bytes) {
+        Ok(_) => Detail::none(),
+        Err(TableFault::Memory) => Detail::none(),
+        Err(fault) => table_detail(alloc, path, bytes, fault),
+    }
+}
+
+/// Whether there is a note on a text.
+fn has_notes(survey: &Option<Survey>) -> bool {
+    match survey {
+        Some(survey) => {
+            survey.are_pounds || !survey.unknown.is_empty() || !survey.low_caps.is_empty()
+        }
+        None => false,
+    }
+}
+
+/// The status of a check: 0 for a valid table that isn't refused for its notes, else 1.
+fn status_of(is_valid: bool, is_refused: bool) -> ExitCode
+    ensures { exit_status result ≡ (if is_valid && not is_refused then 0 else 1) }
 {
-    if is_valid {
+    if is_valid && !is_refused {
         ExitCode::SUCCESS
     } else {
         ExitCode::FAILURE
@@ -70,26 +95,15 @@ fn status_of(is_valid: bool) -> ExitCode
 }
 
 /// Tells what was found in a table's text.
-fn tell_notes<R: Eprint>(rt: &R, path: &str, surveyed: &Result<Survey, Misread>, is_valid: bool) {
-    match surveyed {
-        Ok(survey) if is_valid => {
-            tell_unknown(rt, survey);
+fn tell_notes<R: Eprint>(rt: &R, detail: &Detail, survey: &Option<Survey>, is_valid: bool) {
+    if let Some(line) = detail.line() {
+        let _ = rt.eprintln(line);
+    }
+    if let Some(survey) = survey {
+        tell_unknown(rt, survey);
+        if is_valid {
+            tell_prices(rt, survey);
             tell_rows(rt, survey);
-        }
-        Ok(survey) => {
-            if let Some(above) = &survey.above {
-                let _ = rt.eprintln(Said {
-                    name: path,
-                    said: above,
-                });
-            }
-            tell_unknown(rt, survey);
-        }
-        Err(misread) => {
-            let _ = rt.eprintln(Said {
-                name: path,
-                said: misread,
-            });
         }
     }
 }
@@ -97,7 +111,30 @@ fn tell_notes<R: Eprint>(rt: &R, path: &str, surveyed: &Result<Survey, Misread>,
 /// Tells which keys aren't known.
 fn tell_unknown<R: Eprint>(rt: &R, survey: &Survey) {
     for unknown in &survey.unknown {
-        let _ = rt.eprintln(unknown);
+        tell_key(rt, unknown, survey.first_heading);
+    }
+}
+
+/// Tells of a key that isn't known, or that belongs above the heading in this line.
+fn tell_key<R: Eprint>(rt: &R, unknown: &Unknown, first_heading: Option<usize>) {
+    match first_heading {
+        Some(line) if unknown.is_misplaced() => {
+            let key = unknown.key.as_str();
+            let _ = eprintln!(rt; "note: {key} belongs above the first [[..]], line {line}");
+        }
+        _ => {
+            let _ = rt.eprintln(unknown);
+        }
+    }
+}
+
+/// Tells which prices may not be meant.
+fn tell_prices<R: Eprint>(rt: &R, survey: &Survey) {
+    if survey.are_pounds {
+        let _ = rt.eprintln("note: all prices are below 10 pence; are they meant as pounds?");
+    }
+    for cap in &survey.low_caps {
+        let _ = rt.eprintln(cap);
     }
 }
 

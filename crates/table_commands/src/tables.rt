@@ -4,19 +4,21 @@ ghost use Rattle.std.specs.Prelude.{◌≡◌, ◌++◌, ◌∷◌, [], None, If
 ghost use Rattle.fare_schedule.specs.Schedule.{tables_of, revisions_of};
 ghost use Rattle.fare_schedule.specs.Supply.{supply_fault};
 ghost use Rattle.reply_book.specs.Tables.{tables_in as tables_by};
+ghost use Rattle.fare_table.specs.Table.{IsTableOf};
 ghost use Rattle.table_commands.specs.Tables.{IsTableIn, IsFirstTable, AreTablesIn, AreTablesOf, IsTaken};
-ghost use Rattle.table_commands.specs.Tables.{IsTableInFault, IsFirstFault, IsNotTaken, IsFurtherFault, AreRefused};
+ghost use Rattle.table_commands.specs.Tables.{IsTableFault, IsTableInFault, IsFirstFault, IsNotTaken, IsFurtherFault, AreRefused};
 ghost use Rattle.table_commands.specs.Trial.{IsSupplyFault};
 
 use crate::detail::Detail;
 use crate::fault::TrialFault;
 use crate::files::WholeFiles;
+use crate::place::place_of;
 use fare_schedule::{Schedule, SupplyFault};
 use fare_table::{EXAMPLE_TABLE, Fares, TableFault};
 use line_replay::RunFault;
 use std::alloc::Global;
 use table_check::read_table;
-use table_notes::{Survey, SurveyFault, look_over};
+use table_notes::{Sheet, SurveyFault};
 
 /// The first fare table: that in a file, or the example table where no file is named.
 ///
@@ -97,12 +99,19 @@ fn supply_from<F: WholeFiles>(
         (IsNotTaken (F.gave files.now) schedule.old path.now place) }
 {
     let table = table_in(alloc, files, path)?;
-    supply(schedule, table, place)?;
+    supply(alloc, schedule, table, path, place)?;
     Ok(())
 }
 
-/// Adds a further table to a schedule. A fault is told with the table's place among them, from 1.
-fn supply(schedule: &mut Schedule, table: Fares, place: usize) -> Result<(), TrialFault>
+/// Adds a further table to a schedule. A fault is told with the table's place among them, from 1, and
+/// names its file.
+fn supply(
+    alloc: Global,
+    schedule: &mut Schedule,
+    table: Fares,
+    path: &str,
+    place: usize,
+) -> Result<(), TrialFault>
     ensures ok { OnOk result (supply_fault schedule.old table ≡ None) }
     ensures supplied { OnOk result
         (tables_of schedule.new ≡ tables_of schedule.old ++ table ∷ []) }
@@ -113,7 +122,10 @@ fn supply(schedule: &mut Schedule, table: Fares, place: usize) -> Result<(), Tri
     match schedule.supply(table) {
         Ok(()) => Ok(()),
         Err(SupplyFault::Memory) => Err(TrialFault::Run(RunFault::Memory)),
-        Err(fault) => Err(TrialFault::Supply(fault, place)),
+        Err(fault) => {
+            let detail = Detail::of_file(alloc, path);
+            Err(TrialFault::Supply(fault, place, detail))
+        }
     }
 }
 
@@ -123,34 +135,33 @@ fn table_in<F: WholeFiles>(alloc: Global, files: &F, path: &str) -> Result<Fares
     ensures fault { IfErr result (IsTableInFault (F.gave files.now) path.now) }
 {
     let bytes = files.bytes_in(alloc, path)?;
-    match read_table(alloc, &bytes) {
+    table_of(alloc, path, &bytes)
+}
+
+/// The fare table that the bytes of the file at a path are.
+pub(crate) fn table_of(alloc: Global, path: &str, bytes: &[u8]) -> Result<Fares, TrialFault>
+    ensures ok { IfOk result (IsTableOf bytes.now) }
+    ensures fault { IfErr result (IsTableFault bytes.now) }
+{
+    match read_table(alloc, bytes) {
         Ok(fares) => Ok(fares),
         Err(TableFault::Memory) => Err(TrialFault::Run(RunFault::Memory)),
         Err(fault) => {
-            let detail = table_detail(alloc, path, &bytes, fault);
+            let detail = table_detail(alloc, path, bytes, fault);
             Err(TrialFault::Table(fault, detail))
         }
     }
 }
 
-/// What is told of a table's fault beside its line: the file, and where the line has no place, the
-/// place.
-fn table_detail(alloc: Global, path: &str, bytes: &[u8], fault: TableFault) -> Detail {
-    match fault {
-        TableFault::NotToml => place_detail(alloc, path, &look_over(alloc, bytes)),
-        TableFault::MaximumTooLow => place_detail(alloc, path, &look_over(alloc, bytes)),
-        _ => Detail::of_file(alloc, path),
-    }
-}
-
-/// The place in a file that a survey of it has found to be bad.
-fn place_detail(alloc: Global, path: &str, surveyed: &Result<Survey, SurveyFault>) -> Detail {
-    match surveyed {
-        Err(SurveyFault::Misread(misread)) => Detail::of(alloc, path, misread),
-        Ok(survey) => match &survey.above {
-            Some(above) => Detail::of(alloc, path, above),
+/// What is told of a table's fault beside its line: the file, and where in it the fault stands, with
+/// what stands there and what may.
+pub(crate) fn table_detail(alloc: Global, path: &str, bytes: &[u8], fault: TableFault) -> Detail {
+    match Sheet::read(alloc, bytes) {
+        Ok(sheet) => match place_of(&sheet, fault) {
+            Some(place) => Detail::of(alloc, path, &place),
             None => Detail::of_file(alloc, path),
         },
+        Err(SurveyFault::Misread(misread)) => Detail::of(alloc, path, &misread),
         Err(SurveyFault::Memory) => Detail::of_file(alloc, path),
     }
 }

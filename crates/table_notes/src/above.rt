@@ -1,8 +1,9 @@
 //! The price that is above its maximum.
 
-use crate::tree::{rows_at, whole_at};
+use crate::places::Wanted;
+use crate::tree::{rows_at, whole_at, whole_in};
 use std::fmt;
-use toml::{Table, Value};
+use toml::Table;
 
 /// The lists whose rows have prices, in the order in which they are looked at.
 const PRICED: [&str; 2] = ["single", "pair"];
@@ -10,45 +11,34 @@ const PRICED: [&str; 2] = ["single", "pair"];
 /// The key of each band's price, and that of its maximum.
 const BANDS: [(&str, &str); 2] = [("peak", "maximum_peak"), ("off_peak", "maximum_off_peak")];
 
-/// What is above its maximum. It prints as its place and the maximum.
+/// A price, or the off-peak maximum, that is above its maximum. It prints as what is allowed.
 #[derive(Clone, Copy, Debug, PartialEq, Eq)]
-pub enum Above {
-    /// The off-peak maximum is above the peak one.
-    Maximum,
-    /// A price of a row is above the maximum of its band.
-    Price {
-        /// The list of the row.
-        list: &'static str,
-        /// The price's key.
-        key: &'static str,
-        /// The row, from 1.
-        row: usize,
-        /// The maximum's key.
-        maximum: &'static str,
-    },
+pub struct Above {
+    /// Where it stands.
+    pub price: Wanted,
+    /// The maximum's key.
+    pub maximum: &'static str,
+    /// The maximum, in pence.
+    pub most: i64,
 }
 
 impl fmt::Display for Above {
     fn fmt<W: fmt::Write>(&self, f: &mut fmt::Formatter<W>) -> fmt::Result {
-        match *self {
-            Above::Maximum => f.write_str("maximum_off_peak is above maximum_peak"),
-            Above::Price {
-                list,
-                key,
-                row,
-                maximum,
-            } => write!(f, "{list}.{key} in row {row} is above {maximum}"),
-        }
+        let (maximum, most) = (self.maximum, self.most);
+        write!(f, "at most {maximum}, {most}")
     }
 }
 
 /// The first price above its maximum: the off-peak maximum, then the single fares row by row, then
 /// the pairs.
 pub fn first_above(tree: &Table) -> Option<Above> {
-    let peak = whole_at(tree, "maximum_peak")?;
-    let off_peak = whole_at(tree, "maximum_off_peak")?;
-    if off_peak > peak {
-        return Some(Above::Maximum);
+    let most = whole_at(tree, "maximum_peak")?;
+    if whole_at(tree, "maximum_off_peak")? > most {
+        return Some(Above {
+            price: Wanted::Key("maximum_off_peak"),
+            maximum: "maximum_peak",
+            most,
+        });
     }
     for list in PRICED {
         if let Some(above) = first_in(tree, list) {
@@ -62,27 +52,17 @@ pub fn first_above(tree: &Table) -> Option<Above> {
 fn first_in(tree: &Table, list: &'static str) -> Option<Above> {
     for (place, row) in rows_at(tree, list).iter().enumerate() {
         for (key, maximum) in BANDS {
-            if is_above(row, key, whole_at(tree, maximum)) {
-                let row = place.saturating_add(1);
-                return Some(Above::Price {
-                    list,
-                    key,
-                    row,
-                    maximum,
-                });
+            if let (Some(price), Some(most)) = (whole_in(row, key), whole_at(tree, maximum)) {
+                if price > most {
+                    let price = Wanted::Cell(list, place.saturating_add(1), key);
+                    return Some(Above {
+                        price,
+                        maximum,
+                        most,
+                    });
+                }
             }
         }
     }
     None
-}
-
-/// Whether a row's price is there and above a maximum that is there.
-fn is_above(row: &Value, key: &str, maximum: Option<i64>) -> bool {
-    let Value::Table(row) = row else {
-        return false;
-    };
-    match (whole_at(row, key), maximum) {
-        (Some(price), Some(maximum)) => price > maximum,
-        _ => false,
-    }
 }

@@ -6,13 +6,23 @@
 #![tactic(auto)]
 
 mod above;
+mod found;
 mod keys;
 mod misread;
+mod pieces;
+mod places;
+mod prices;
+mod rows;
+mod sheet;
 mod survey;
 mod tree;
 mod unknown;
 
 pub use above::Above;
+pub use found::Found;
 pub use misread::Misread;
+pub use places::Wanted;
+pub use prices::LowCap;
+pub use sheet::Sheet;
 pub use survey::{Survey, SurveyFault, look_over};
 pub use unknown::Unknown;

@@ -34,7 +34,7 @@ impl Misread {
 }
 
 /// The line of the place behind these bytes, from 1.
-fn line_behind(before: &[u8]) -> usize
+pub fn line_behind(before: &[u8]) -> usize
     ensures { result ≡ line_behind before.now }
 {
     before.iter().filter(|byte| **byte == LINE_FEED).count() + 1

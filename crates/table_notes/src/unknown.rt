@@ -23,6 +23,14 @@ pub struct Unknown {
     pub meant: Option<&'static str>,
 }
 
+impl Unknown {
+    /// Whether it is a key of the table itself that stands in a row: TOML takes it for one of the
+    /// heading above it.
+    pub fn is_misplaced(&self) -> bool {
+        self.list.is_some() && is_among(self.key.as_str(), &TOP_KEYS)
+    }
+}
+
 impl fmt::Display for Unknown {
     fn fmt<W: fmt::Write>(&self, f: &mut fmt::Formatter<W>) -> fmt::Result {
         let (key, row) = (self.key.escape_debug(), self.row);

@@ -6,7 +6,9 @@ use command_line::{Arguments, arguments_of, refuse_command};
 use std::io;
 use std::process::ExitCode;
 use std::rt::{Env, Files};
-use table_commands::{SystemFiles, TrialFault, check_file, replay_input, tell_fault, words_of};
+use table_commands::{
+    SystemFiles, TrialFault, check_file, replay_input, tell_fare, tell_fault, words_of,
+};
 
 fn main(rt: HostRuntime) -> io::Result<ExitCode> {
     match run(&rt) {
@@ -38,7 +40,10 @@ fn run<R: AllocGlobal + Env + Files + Input + Print + Eprint>(
             &mut rt.reader(),
             &mut output,
         ),
-        Arguments::Check { table } => check_file(rt, &files, table, &mut output),
+        Arguments::Check(asked) => match asked.journey {
+            Some(journey) => tell_fare(rt.alloc(), &files, asked.table, journey, &mut output),
+            None => check_file(rt, &files, asked.table, asked.strict, &mut output),
+        },
         _ => Err(TrialFault::Line(refuse_command(rt.alloc())?)),
     }
 }
