@@ -4,6 +4,8 @@ use Rattle.command_line.specs.declared.arguments.Arguments.{Arguments}
 use Rattle.command_line.specs.declared.arguments.Arguments.TheVariants as asked
 use Rattle.command_line.specs.declared.arguments.Serve.{Serve}
 use Rattle.command_line.specs.declared.balances.Balances.{Balances}
+use Rattle.command_line.specs.declared.check.Check.{Check}
+use Rattle.command_line.specs.declared.check.Journey.{Journey}
 use Rattle.command_line.specs.declared.history.History.{History}
 use Rattle.command_line.specs.declared.seal.Seal.{Seal}
 use Rattle.command_line.specs.declared.seal.Seal.TheVariants.{Unasked, Made, Kept}
@@ -13,14 +15,15 @@ abbrev pub IsWithin : ℕ → ℕ → Type 0
 IsWithin limit number = (1 ≤ number) × (number ≤ limit)
 
 -- a station has 1 to 100,000 cards and a journal of 1 to 1,000,000 touches, and a server 1 to 64
--- lines; a line is done, if at all, after 1 to 1,000,000 connections, and a silent gate is given up,
--- if at all, after 1 to 1,000,000 seconds
+-- lines; a line is done, if at all, after 1 to 1,000,000 connections, a silent gate is given up, if at
+-- all, after 1 to 1,000,000 seconds, and how it stands is told, if at all, each 1 to 1,000,000 seconds
 pub record IsServeAllowed (serve : Serve) : Type 0 where
   pub cards : IsWithin 100_000 serve.cards
   pub capacity : IsWithin 1_000_000 serve.capacity
   pub lines : IsWithin 64 serve.lines
   pub connections : IfSome serve.connections (IsWithin 1_000_000)
   pub idle : IfSome serve.idle (IsWithin 1_000_000)
+  pub report : IfSome serve.report (IsWithin 1_000_000)
 
 -- a seal that is held against is of at most 1,000,000 touches, and its digest has 32 bytes
 abbrev pub IsSealAllowed : Seal → Type 0
@@ -36,10 +39,19 @@ IsHistoryAllowed history = IfSome history.card (IsWithin 100_000)
 abbrev pub IsBalancesAllowed : Balances → Type 0
 IsBalancesAllowed balances = IfSome balances.at (λ touches. touches ≤ 1_000_000)
 
+-- stations have numbers from 1
+pub record IsJourneyAllowed (journey : Journey) : Type 0 where
+  pub from : 1 ≤ journey.from
+  pub to : 1 ≤ journey.to
+
+-- a check is of such a journey, if of any
+abbrev pub IsCheckAllowed : Check → Type 0
+IsCheckAllowed check = IfSome check.journey IsJourneyAllowed
+
 -- so it is of each command
 abbrev pub IsAllowed : Arguments → Type 0
 IsAllowed (asked.Replay table cards revisions) = IsWithin 100_000 cards
-IsAllowed (asked.Check table) = Unit {0}
+IsAllowed (asked.Check check) = IsCheckAllowed check
 IsAllowed (asked.Serve serve) = IsServeAllowed serve
 IsAllowed (asked.Migrate migrate) = IsWithin 100_000 migrate.cards
 IsAllowed (asked.Verify verify) = IsSealAllowed verify.seal

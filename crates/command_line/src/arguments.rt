@@ -6,6 +6,7 @@ ghost use Rattle.clap.specs.declared.error.kind.ErrorKind.TheVariants.{InvalidSu
 ghost use Rattle.command_line.specs.Arguments.{IsAllowed, IsServeAllowed, IsWithin};
 
 use crate::balances::{Balances, balances_asked};
+use crate::check::{Check, check_asked};
 use crate::commands::command;
 use crate::history::{History, history_asked};
 use crate::seal::{Seal, seal_asked};
@@ -24,6 +25,9 @@ pub const CONNECTIONS_LIMIT: u32 = 1_000_000;
 /// The most seconds that a connection may be silent before it is ended.
 pub const IDLE_LIMIT: u32 = 1_000_000;
 
+/// The most seconds that may lie between two reports of how a server stands.
+pub const REPORT_LIMIT: u32 = 1_000_000;
+
 /// What the program is asked to do. Revisions are the paths of further fare tables, in the order in
 /// which they were written.
 #[derive(Debug, PartialEq, Eq, Drop)]
@@ -35,10 +39,8 @@ pub enum Arguments<'a> {
         cards: u32,
         revisions: Vec<&'a str>,
     },
-    /// Check the fare table in the file of this path.
-    Check {
-        table: &'a str,
-    },
+    /// Check a fare table.
+    Check(Check<'a>),
     /// Serve gates.
     Serve(Serve<'a>),
     /// Carry a journal of the first format over to a new file.
@@ -72,8 +74,14 @@ pub struct Serve<'a> {
     pub connections: Option<u32>,
     /// After how many seconds without a byte a connection is ended, where it is ended so.
     pub idle: Option<u32>,
+    /// After how many seconds it is told each time how the server stands, where it is told.
+    pub report: Option<u32>,
     /// Whether it goes on when the journal's disk has failed.
     pub stay_halted: bool,
+    /// Whether it makes no journal, and refuses one with open slots behind its end.
+    pub strict: bool,
+    /// Whether it waits for a journal that another server has.
+    pub standby: bool,
 }
 
 /// What the carrying over of a journal is asked for.
@@ -112,6 +120,10 @@ const NOT_A_SEAL: &str =
 /// What stands for a card's number that has a sign, or a day that is no date.
 const NOT_A_CARD_OR_DAY: &str =
     "a card's number is written in the digits 0 to 9 alone, and a day is a date, as 2025-01-07";
+
+/// What stands for a journey that is none.
+const NOT_A_JOURNEY: &str = "a journey is the numbers of two stations, from 1 to 65535 in the \
+digits 0 to 9 alone, and a moment in UTC, as 2025-01-07T08:30:00Z";
 
 /// What stands for a number of touches that is none.
 const NOT_A_COUNT: &str =
@@ -154,6 +166,7 @@ fn asked_of<'a>(
 /// What is said of the matches of a command whose values ask for nothing.
 fn refused_by(matches: &ArgMatches<'_>) -> &'static str {
     match matches.subcommand() {
+        Some(("check", _)) => NOT_A_JOURNEY,
         Some(("verify", _)) => NOT_A_SEAL,
         Some(("history", _)) => NOT_A_CARD_OR_DAY,
         Some(("balances", _)) => NOT_A_COUNT,
@@ -200,7 +213,7 @@ fn asked_by<'a>(
 {
     match name {
         "replay" => replay_asked(inner, revisions),
-        "check" => check_asked(inner),
+        "check" => check_of(inner),
         "serve" => serve_asked(inner, revisions),
         "migrate" => migrate_asked(inner),
         "verify" => verify_asked(inner, revisions),
@@ -222,11 +235,10 @@ fn revisions_asked<'a>(
 }
 
 /// The check that the matches of its command ask for.
-fn check_asked<'a>(matches: &ArgMatches<'a>) -> Option<Arguments<'a>>
+fn check_of<'a>(matches: &ArgMatches<'a>) -> Option<Arguments<'a>>
     ensures { IfSome result IsAllowed }
 {
-    let table = matches.get_str("table")?;
-    Some(Arguments::Check { table })
+    Some(Arguments::Check(check_asked(matches)?))
 }
 
 /// The replay that the matches of its command ask for.
@@ -254,7 +266,10 @@ fn serve_asked<'a>(matches: &ArgMatches<'a>, revisions: Vec<&'a str>) -> Option<
     let lines = number_asked(matches, "lines", LINES_LIMIT)?;
     let connections = number_given(matches, "connections", CONNECTIONS_LIMIT)?;
     let idle = number_given(matches, "idle", IDLE_LIMIT)?;
+    let report = number_given(matches, "report", REPORT_LIMIT)?;
     let stay_halted = matches.get_flag("stay-halted");
+    let strict = matches.get_flag("strict");
+    let standby = matches.get_flag("standby");
     Some(Arguments::Serve(Serve {
         table,
         revisions,
@@ -265,7 +280,10 @@ fn serve_asked<'a>(matches: &ArgMatches<'a>, revisions: Vec<&'a str>) -> Option<
         lines,
         connections,
         idle,
+        report,
         stay_halted,
+        strict,
+        standby,
     }))
 }
 

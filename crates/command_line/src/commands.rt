@@ -57,6 +57,8 @@ enum Takes {
     Text(&'static str),
     /// Two texts, with their names in the help.
     Pair(&'static [&'static str]),
+    /// Three texts, with their names in the help.
+    Three(&'static [&'static str]),
     /// One of these words, with its name in the help.
     Word(&'static str, &'static [&'static str]),
     /// A number from 1 to a limit, with its name in the help.
@@ -140,6 +142,7 @@ fn taking<'a>(alloc: Global, parameter: &Parameter) -> Arg<'a> {
         Takes::Flag => Arg::new(alloc, name).long(name).action(ArgAction::SetTrue),
         Takes::Text(value) => option(alloc, name).value_name(value),
         Takes::Pair(values) => option(alloc, name).num_args(2).value_names(values),
+        Takes::Three(values) => option(alloc, name).num_args(3).value_names(values),
         Takes::Word(value, words) => option(alloc, name).value_name(value).value_parser(words),
         Takes::Number(value, limit) => number(alloc, name, limit).value_name(value),
         Takes::Revisions => revisions(alloc, name),

@@ -5,6 +5,7 @@
 
 mod arguments;
 mod balances;
+mod check;
 mod commands;
 mod history;
 mod seal;
@@ -13,5 +14,6 @@ pub use arguments::{
     Arguments, Migrate, Serve, Verify, arguments_of, refuse_bytes, refuse_command,
 };
 pub use balances::Balances;
+pub use check::{Check, Journey};
 pub use history::{History, HistoryFormat};
 pub use seal::Seal;

@@ -1,7 +1,9 @@
 pub mod Migrated
 pub mod Carried
 pub mod Command
+pub mod Differing
 pub mod Journals
+pub mod Prepared
 pub mod Told
 pub mod Words
 pub mod Verified

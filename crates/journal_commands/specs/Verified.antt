@@ -3,7 +3,10 @@
 use Rattle.std.specs.Prelude.{◌≡◌, ◌⊎◌, ℕ, List, map, Option, Some, None, option_map}
 use Rattle.command_line.specs.declared.arguments.Verify.{Verify}
 use Rattle.gate_session.specs.Writing.{Wrote}
-use Rattle.journal_audit.specs.Audit.{HasEnded}
+use Rattle.journal_audit.specs.Audit.{IsSound, HasEnded}
+use Rattle.journal_audit.specs.declared.audit.finding.Finding.{Finding}
+use Rattle.journal_audit.specs.declared.audit.finding.Finding.TheVariants.{Sound, LookBehind}
+use Rattle.journal_audit.specs.declared.audit.seal.Seal.{Seal}
 use Rattle.journal_audit.specs.declared.fault.AuditFault.{AuditFault}
 use Rattle.reply_book.specs.Tables.{Tables}
 use Rattle.table_commands.specs.Files.{ForFile, IsFileFault}
@@ -50,6 +53,17 @@ pub record HasVerified (gave : List ℕ → List ℕ → Type 0) (verify : Verif
   pub tables : Option Tables
   pub asked : AreTablesAsked gave verify tables
   pub written : ForFile gave verify.journal.now (λ bytes. Wrote before after (λ text. Says tables bytes text))
+
+-- the status of what is found: 0, or 3 where more is to be looked at
+abbrev pub status_of : Finding → ℕ
+status_of Sound = 0
+status_of LookBehind = 3
+
+-- the bytes are a sound journal, of which the text is the lines, and the status is that of what is
+-- found
+abbrev pub IsVerified : Option Tables → Seal → ℕ → List ℕ → List ℕ → Type 0
+IsVerified tables asked status bytes text =
+    (found : Finding) × IsSound tables asked bytes text found × (status ≡ status_of found)
 
 -- the audit ended early, for this fault, behind what was written
 abbrev pub HasEndedEarly : (List ℕ → List ℕ → Type 0) → Verify → Option (List ℕ) → Option (List ℕ)

@@ -2,15 +2,15 @@
 
 ghost use Rattle.std.specs.Prelude.{◌≡◌, ◌⊎◌, IfOk, IfErr, OnOk, map};
 ghost use Rattle.std.specs.Process.{exit_status};
-ghost use Rattle.journal_balances.specs.Balances.{AreBalances, HasEnded};
-ghost use Rattle.journal_balances.specs.declared.fault.BalancesFault.{BalancesFault};
-ghost use Rattle.journal_balances.specs.declared.totals.Totals.{Totals as Sums};
-ghost use Rattle.journal_commands.specs.Journals.{balances_fault};
+ghost use Rattle.journal_audit.specs.Balances.{AreBalances, HasEnded};
+ghost use Rattle.journal_audit.specs.declared.balances.totals.Totals.{Totals as Sums};
+ghost use Rattle.journal_audit.specs.declared.fault.AuditFault.{AuditFault};
+ghost use Rattle.journal_commands.specs.Command.{audit_fault};
 ghost use Rattle.journal_commands.specs.Words.{HasTold, IsUnread};
 
 use crate::fault::CommandFault;
 use command_line::Balances;
-use journal_balances::{Totals, write_balances};
+use journal_audit::{Totals, write_balances};
 use std::io::Write;
 use std::process::ExitCode;
 use table_commands::{WholeFiles, tables_in};
@@ -33,7 +33,7 @@ pub fn tell_balances<R: AllocGlobal + Eprint, F: WholeFiles, W: Write>(
     ensures status { IfOk result (λ status. exit_status status ≡ 0) }
     ensures fault { IfErr result (λ fault. (IsUnread (F.gave files.now) asked.now.table.now
         (map (λ word. word.now) asked.now.revisions.items) fault × (writer.new ≡ writer.old))
-        ⊎ ((cause : BalancesFault) × (fault ≡ balances_fault cause)
+        ⊎ ((cause : AuditFault) × (fault ≡ audit_fault cause)
         × HasTold (F.gave files.now) asked.now.table.now
         (map (λ word. word.now) asked.now.revisions.items) asked.now.journal.now
         (W.contents writer.old) (W.contents writer.new) (λ tables bytes text.

@@ -2,16 +2,14 @@
 
 ghost use Rattle.std.specs.Prelude.{◌≡◌};
 ghost use Rattle.line_replay.specs.declared.fault.RunFault.TheVariants.{Memory};
+ghost use Rattle.table_commands.specs.Detail.{no_detail};
 ghost use Rattle.table_commands.specs.declared.fault.TrialFault.TheVariants.{Run};
 ghost use Rattle.journal_commands.specs.declared.fault.CommandFault.TheVariants.{Journal, Migrate, Trial};
 ghost use Rattle.journal_commands.specs.Command.{audit_fault};
-ghost use Rattle.journal_commands.specs.Journals.{history_fault, balances_fault};
 ghost use Rattle.journal_commands.specs.Told.{told_fault};
 
 use clap::Error as LineError;
 use journal_audit::{AuditFault, SealFault};
-use journal_balances::BalancesFault;
-use journal_history::HistoryFault;
 use line_replay::RunFault;
 use std::alloc::AllocError;
 use std::process::ExitCode;
@@ -27,13 +25,15 @@ pub enum CommandFault {
     /// run ended early.
     Trial(TrialFault),
     /// The journal can't be made or opened.
-    Journal(JournalFault),
+    Journal(JournalFault, Detail),
     /// The journal can't be carried over to the new file.
-    Migrate(MigrateCause),
+    Migrate(MigrateCause, Detail),
     /// The journal isn't the one that was sealed.
     Seal(SealFault),
     /// The journal has fewer touches than balances were asked for behind: it has so many.
     Place(u32),
+    /// So many open slots stand behind the journal's end, and the server was to look for them.
+    Behind(u32, Detail),
     /// What was paid in on the card of this number, less what it was charged, isn't its balance. No
     /// run shows it.
     Balance(u32),
@@ -53,10 +53,11 @@ impl fmt::Display for CommandFault {
     fn fmt<W: fmt::Write>(&self, f: &mut fmt::Formatter<W>) -> fmt::Result {
         match self {
             CommandFault::Trial(fault) => write!(f, "{fault}"),
-            CommandFault::Journal(fault) => write!(f, "fault journal {fault}"),
-            CommandFault::Migrate(cause) => write!(f, "fault migrate {cause}"),
+            CommandFault::Journal(fault, _) => write!(f, "fault journal {fault}"),
+            CommandFault::Migrate(cause, _) => write!(f, "fault migrate {cause}"),
             CommandFault::Seal(fault) => write!(f, "fault seal {fault}"),
             CommandFault::Place(touches) => write!(f, "fault place {touches}"),
+            CommandFault::Behind(slots, _) => write!(f, "fault behind {slots}"),
             CommandFault::Balance(card) => write!(f, "fault balance {card}"),
             CommandFault::Listen(_) => f.write_str("fault listen"),
             CommandFault::SeatMissing => f.write_str("fault close 1 SeatMissing"),
@@ -70,8 +71,22 @@ impl CommandFault {
     pub fn detail(&self) -> Option<&str> {
         match self {
             CommandFault::Trial(fault) => fault.detail(),
+            CommandFault::Journal(_, detail) => detail.line(),
+            CommandFault::Migrate(_, detail) => detail.line(),
+            CommandFault::Behind(_, detail) => detail.line(),
             CommandFault::Listen(detail) => detail.line(),
             _ => None,
+        }
+    }
+
+    /// This fault, with what stands behind its line where it is of a journal. Its line stays.
+    pub fn with(self, detail: Detail) -> CommandFault
+        ensures { told_fault result ≡ told_fault self }
+    {
+        match self {
+            CommandFault::Journal(fault, _) => CommandFault::Journal(fault, detail),
+            CommandFault::Migrate(cause, _) => CommandFault::Migrate(cause, detail),
+            fault => fault,
         }
     }
 }
@@ -117,18 +132,18 @@ impl From<AllocError> for CommandFault {
 }
 
 impl From<JournalFault> for CommandFault {
-    ghost from_gives = { λ given fault. fault ≡ Journal given };
+    ghost from_gives = { λ given fault. fault ≡ Journal given no_detail };
 
     fn from(fault: JournalFault) -> CommandFault {
-        CommandFault::Journal(fault)
+        CommandFault::Journal(fault, Detail::none())
     }
 }
 
 impl From<MigrateCause> for CommandFault {
-    ghost from_gives = { λ given fault. fault ≡ Migrate given };
+    ghost from_gives = { λ given fault. fault ≡ Migrate given no_detail };
 
     fn from(cause: MigrateCause) -> CommandFault {
-        CommandFault::Migrate(cause)
+        CommandFault::Migrate(cause, Detail::none())
     }
 }
 
@@ -139,34 +154,10 @@ impl From<AuditFault> for CommandFault {
         match fault {
             AuditFault::Memory => RunFault::Memory.into(),
             AuditFault::Write => RunFault::Write.into(),
-            AuditFault::Journal(fault) => CommandFault::Journal(fault),
+            AuditFault::Journal(fault) => fault.into(),
             AuditFault::Seal(fault) => CommandFault::Seal(fault),
-        }
-    }
-}
-
-impl From<HistoryFault> for CommandFault {
-    ghost from_gives = { λ given fault. fault ≡ history_fault given };
-
-    fn from(fault: HistoryFault) -> CommandFault {
-        match fault {
-            HistoryFault::Memory => RunFault::Memory.into(),
-            HistoryFault::Write => RunFault::Write.into(),
-            HistoryFault::Journal(fault) => CommandFault::Journal(fault),
-        }
-    }
-}
-
-impl From<BalancesFault> for CommandFault {
-    ghost from_gives = { λ given fault. fault ≡ balances_fault given };
-
-    fn from(fault: BalancesFault) -> CommandFault {
-        match fault {
-            BalancesFault::Memory => RunFault::Memory.into(),
-            BalancesFault::Write => RunFault::Write.into(),
-            BalancesFault::Journal(fault) => CommandFault::Journal(fault),
-            BalancesFault::Place(touches) => CommandFault::Place(touches),
-            BalancesFault::Balance(card) => CommandFault::Balance(card),
+            AuditFault::Place(touches) => CommandFault::Place(touches),
+            AuditFault::Balance(card) => CommandFault::Balance(card),
         }
     }
 }

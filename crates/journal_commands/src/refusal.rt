@@ -2,13 +2,15 @@
 
 ghost use Rattle.std.specs.Prelude.{◌≡◌};
 ghost use Rattle.table_commands.specs.declared.detail.Detail.{Detail};
+ghost use Rattle.table_commands.specs.declared.fault.TrialFault.TheVariants.{File as FileFault};
 
 use crate::fault::CommandFault;
+use crate::standby::refused_journal;
 use std::alloc::Global;
 use std::fs::{File, OpenOptions, TryLockError};
 use std::io;
 use std::rt::Files;
-use table_commands::{Detail, Refusal, TrialFault, kind_refusal, open_refusal};
+use table_commands::{Detail, Refusal, kind_refusal, open_refusal};
 
 /// The fault of an address that isn't listened on, by the error of the listening. One without a
 /// number is of the address's text.
@@ -28,16 +30,16 @@ pub fn journal_fault<R: AllocGlobal + Files<File = File>>(
     path: &str,
     is_written: bool,
 ) -> CommandFault
-    ensures { (detail : Detail) × (result ≡ CommandFault.Trial (TrialFault.File detail)) }
+    ensures { (detail : Detail) × (result ≡ CommandFault.Trial (FileFault detail)) }
 {
     let refusal = journal_refusal(rt, path, is_written);
-    CommandFault::Trial(TrialFault::File(Detail::of(rt.alloc(), path, &refusal)))
+    refused_journal(rt.alloc(), path, refusal)
 }
 
 /// Why a journal's file isn't had, which a disk doesn't say: its steps are made again one by one,
 /// up to the first that is refused. A file to be written is made where there is none, as the disk
 /// does.
-fn journal_refusal<R: Files<File = File>>(rt: &R, path: &str, is_written: bool) -> Refusal {
+pub fn journal_refusal<R: Files<File = File>>(rt: &R, path: &str, is_written: bool) -> Refusal {
     let opened = OpenOptions::new()
         .read(true)
         .write(is_written)
@@ -46,6 +48,15 @@ fn journal_refusal<R: Files<File = File>>(rt: &R, path: &str, is_written: bool) 
     match opened {
         Ok(file) => lock_refusal(&file),
         Err(error) => open_refusal(rt, path, &error),
+    }
+}
+
+/// Why a journal's file isn't there to be opened, which is not made.
+pub fn missing_refusal<R: Files<File = File>>(rt: &R, path: &str) -> Option<Refusal> {
+    let opened = OpenOptions::new().read(true).write(true).open(rt, path);
+    match opened {
+        Ok(_) => None,
+        Err(error) => Some(open_refusal(rt, path, &error)),
     }
 }
 

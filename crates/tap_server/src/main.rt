@@ -3,16 +3,20 @@
 //! stated function of what is read.
 #![tactic(auto)]
 
+mod failure;
+mod journal;
+mod journals;
+mod noted;
 mod server;
 mod standard;
+mod station_line;
+mod watch;
 
+use crate::journals::{balances, history, migrate, verify};
 use crate::server::serve_gates;
 use crate::standard::standard_files;
 use command_line::{Arguments, arguments_of};
-use journal_commands::{
-    CommandFault, SystemDisks, migrate_journal, tell_balances, tell_command_fault, tell_history,
-    verify_journal,
-};
+use journal_commands::{CommandFault, tell_command_fault};
 use std::fs::File;
 use std::io;
 use std::net::{Net, TcpListener, TcpStream};
@@ -21,7 +25,7 @@ use std::rt::{Env, Files};
 use std::sync::Wait;
 use std::thread::Threads;
 use std::time::Clock;
-use table_commands::{SystemFiles, check_file, replay_input, words_of};
+use table_commands::{SystemFiles, check_file, replay_input, tell_fare, words_of};
 
 fn main(rt: HostRuntime) -> io::Result<ExitCode> {
     match run(&rt) {
@@ -62,16 +66,17 @@ fn run<
             &mut rt.reader(),
             &mut output,
         )?),
-        Arguments::Check { table } => Ok(check_file(rt, &files, table, &mut output)?),
+        Arguments::Check(asked) => Ok(match asked.journey {
+            Some(journey) => tell_fare(rt.alloc(), &files, asked.table, journey, &mut output)?,
+            None => check_file(rt, &files, asked.table, asked.strict, &mut output)?,
+        }),
         Arguments::Serve(asked) => {
             let _held = standard_files(rt);
             serve_gates(rt, &asked)
         }
-        Arguments::Migrate(asked) => {
-            migrate_journal(rt, &files, &SystemDisks::new(rt), &asked, &mut output)
-        }
-        Arguments::Verify(asked) => verify_journal(rt.alloc(), &files, &asked, &mut output),
-        Arguments::History(asked) => tell_history(rt.alloc(), &files, &asked, &mut output),
-        Arguments::Balances(asked) => tell_balances(rt, &files, &asked, &mut output),
+        Arguments::Migrate(asked) => migrate(rt, &files, &asked, &mut output),
+        Arguments::Verify(asked) => verify(rt, &files, &asked, &mut output),
+        Arguments::History(asked) => history(rt, &files, &asked, &mut output),
+        Arguments::Balances(asked) => balances(rt, &files, &asked, &mut output),
     }
 }

@@ -1,37 +1,51 @@
 //! The command `serve`: the office of a journal, served to gates over TCP.
 
 ghost use Rattle.tap_office.specs.Name.{IsNameOf};
+ghost use Rattle.fare_schedule.specs.Schedule.{revisions_of};
 ghost use Rattle.tap_office.specs.Opening.{opened_of};
 ghost use Rattle.command_line.specs.Arguments.{IsServeAllowed};
-ghost use Rattle.std.specs.Prelude.{◌≡◌};
+ghost use Rattle.std.specs.Prelude.{◌≡◌, ◌^◌, []};
+ghost use Rattle.std.specs.List.{All};
+ghost use Rattle.gate_service.specs.Tally.{IsBelow};
 ghost use Rattle.tap_server.specs.Serve.{serve_fault};
 
+use crate::failure::Failure;
+use crate::journal::{device_fault, journal_disk};
+use crate::noted::NotedDisk;
+use crate::station_line::station_posts;
+use crate::watch::{FailureWatch, Watching};
 use command_line::Serve;
-use gate_service::{Notices, ServeFault, TcpLines, make_posts, serve_office};
-use journal_commands::{CommandFault, journal_fault, listen_fault, slots_behind, tell_behind};
+use fare_schedule::Schedule;
+use gate_service::{
+    GateLine, Lines, Notices, Post, ServeFault, TcpLines, Watch, Watched, serve_office,
+};
+use journal_commands::{
+    CommandFault, OpenedBy, explained, listen_fault, look_behind, slots_behind, tell_behind,
+};
 use line_replay::RunFault;
+use money_time::Zone;
 use std::alloc::Global;
 use std::fs::File;
 use std::io;
 use std::io::{BufWriter, Write};
 use std::marker::Brand;
 use std::net::{Net, TcpListener, TcpStream};
-use std::os::fd::AsRawFd;
 use std::process::ExitCode;
 use std::rt::Files;
 use std::sync::Wait;
-use std::sync::atomic::AtomicBool;
 use std::thread::Threads;
 use std::time::{Clock, Duration};
 use table_commands::{Detail, SystemFiles, first_table, schedule_of};
 use tap_disk::{Disk, FileDisk};
-use tap_journal::{Journal, JournalFault};
 use tap_office::{CloseCause, Desk, Named, Office, Opening, Seat};
 use tcp_line::TcpLine;
 
-/// Opens the office of a journal, which is made where its file is empty, serves gates until all
-/// lines are done, closes the office and writes the report. The tables are looked at before the
-/// journal, and open slots behind its end are told of.
+/// Opens the office of a journal, serves gates until all lines are done, closes the office and writes
+/// the report. The tables are looked at before the journal, which is made where its file is empty, and
+/// open slots behind its end are told of.
+///
+/// A server that is strict makes no journal, and serves none with more than one open slot behind its
+/// end. One on standby waits for a journal that another server has.
 pub(crate) fn serve_gates<
     R: AllocGlobal
         + Files<File = File>
@@ -48,37 +62,55 @@ pub(crate) fn serve_gates<
     let files = SystemFiles::new(rt);
     let first = first_table(rt.alloc(), &files, Some(asked.table))?;
     let digest = first.digest();
+    let zone = Zone::read(first.zone_text()).ok();
     let schedule = schedule_of(rt.alloc(), &files, first, asked.revisions.as_slice())?;
-    let disk = journal_disk(rt, &digest, asked)?;
-    let seats = asked.lines as u16;
-    let opening = match Opening::read(rt.alloc(), disk, schedule, asked.cards, seats) {
-        Ok(opening) => opening,
-        Err(fault) => return Err(fault.cause.into()),
-    };
-    serve_opening::<Brand, FileDisk, R>(rt, opening, asked)
+    let failure = Failure::none();
+    let disk = journal_disk(rt, &failure, &digest, asked)?;
+    serve_journal(rt, disk, &failure, schedule, zone, asked)
 }
 
-/// The disk of the journal's file, with a journal of no touches, for the first table of this
-/// digest, where the file is empty.
-fn journal_disk<R: AllocGlobal + Files<File = File>>(
+/// Opens the office of the journal on a disk, by a schedule without a revision, and serves it.
+fn serve_journal<
+    'a,
+    R: AllocGlobal
+        + Files<File = File>
+        + Net<Listener = TcpListener, Stream = TcpStream>
+        + Clock
+        + Threads
+        + Wait
+        + Sync
+        + Print
+        + Eprint,
+>(
     rt: &R,
-    digest: &[u8; 32],
+    disk: NotedDisk<'a, FileDisk>,
+    failure: &'a Failure,
+    schedule: Schedule,
+    zone: Option<Zone>,
     asked: &Serve<'_>,
-) -> Result<FileDisk, CommandFault> {
-    let mut disk = match FileDisk::at(rt, asked.journal) {
-        Ok(disk) => disk,
-        Err(_) => return Err(journal_fault(rt, asked.journal, true)),
-    };
-    let Ok(size) = disk.len() else {
-        return Err(JournalFault::Device.into());
-    };
-    if size > 0 {
-        return Ok(disk);
+) -> Result<ExitCode, CommandFault>
+    requires unrevised { revisions_of schedule ≡ [] }
+    requires allowed { IsServeAllowed asked.now }
+{
+    let seats = asked.lines as u16;
+    match Opening::read(rt.alloc(), disk, schedule, asked.cards, seats) {
+        Ok(opening) => {
+            serve_opening::<Brand, NotedDisk<'a, FileDisk>, R>(rt, opening, failure, zone, asked)
+        }
+        Err(fault) => Err(unopened_fault(rt, failure, asked, fault.cause.into())),
     }
-    match Journal::create(disk, asked.capacity, asked.cards, digest) {
-        Ok(journal) => Ok(journal.close()),
-        Err(fault) => Err(fault.cause.into()),
-    }
+}
+
+/// The fault of a journal that isn't opened, with what stands behind its line.
+fn unopened_fault<R: AllocGlobal + Files>(
+    rt: &R,
+    failure: &Failure,
+    asked: &Serve<'_>,
+    fault: CommandFault,
+) -> CommandFault {
+    let fault = device_fault(rt, failure, asked, fault);
+    let files = SystemFiles::new(rt);
+    explained(rt.alloc(), &files, OpenedBy::serve(asked), fault)
 }
 
 /// Makes the office of an opening, by its name, listens, and serves it.
@@ -94,7 +126,13 @@ fn serve_opening<
         + Sync
         + Print
         + Eprint,
->(rt: &R, opening: Opening<D>, asked: &Serve<'_>) -> Result<ExitCode, CommandFault>
+>(
+    rt: &R,
+    opening: Opening<D>,
+    failure: &Failure,
+    zone: Option<Zone>,
+    asked: &Serve<'_>,
+) -> Result<ExitCode, CommandFault>
     requires name { IsNameOf N.opened N.name N.parts N.story N.table (opened_of opening) }
     requires allowed { IsServeAllowed asked.now }
 {
@@ -104,12 +142,18 @@ fn serve_opening<
         Ok(made) => made,
         Err(fault) => return Err(fault.cause.into()),
     };
-    tell_behind(rt, slots_behind(rt, asked.journal, office.opened()));
+    let behind = slots_behind(rt, asked.journal, office.opened());
+    look_behind(alloc, asked.journal, behind, asked.strict)?;
+    tell_behind(rt, behind);
+    let watching = Watching {
+        watched: watched_by(asked, capacity, office.opened(), zone),
+        failure,
+    };
     let listener = match TcpListener::bind(rt, asked.listen) {
         Ok(listener) => listener,
         Err(error) => return Err(listen_fault(alloc, asked.listen, &error)),
     };
-    let halted = serve_listener(rt, office, seats, desks, &listener, capacity, asked)?;
+    let halted = serve_listener(rt, office, seats, desks, &listener, watching, asked)?;
     Ok(status_of(halted))
 }
 
@@ -131,7 +175,7 @@ fn serve_listener<
     seats: Vec<Seat<N>>,
     desks: Vec<Desk<N>>,
     listener: &TcpListener,
-    capacity: u32,
+    watching: Watching<'_>,
     asked: &Serve<'_>,
 ) -> Result<bool, CommandFault> {
     let alloc = rt.alloc();
@@ -143,7 +187,7 @@ fn serve_listener<
         seats,
         desks,
         listener,
-        capacity,
+        watching,
         asked,
         &listening,
         &mut output,
@@ -173,24 +217,100 @@ fn serve_lines<
     seats: Vec<Seat<N>>,
     desks: Vec<Desk<N>>,
     listener: &TcpListener,
-    capacity: u32,
+    watching: Watching<'_>,
     asked: &Serve<'_>,
     listening: &str,
     output: &mut W,
 ) -> Result<bool, ServeFault> {
-    let told = AtomicBool::new(false);
-    let lines = TcpLines {
-        ended: AtomicBool::new(false),
-        listener: listener.as_raw_fd(),
-    };
-    let ends = if asked.stay_halted {
-        None
-    } else {
-        Some(&lines)
-    };
-    let watch = Notices::new(rt, ends, asked.lines, capacity, office.opened());
-    let line = TcpLine::new(rt, listener, &told, &lines.ended, idle_of(asked));
-    let posts = make_posts(rt.alloc(), &line, seats, desks)?;
+    let lines = TcpLines::new(listener);
+    serve_over(
+        rt, office, seats, desks, &lines, watching, asked, listening, output,
+    )
+}
+
+/// The same over these lines: they and the watch over them have one lifetime.
+fn serve_over<
+    'a,
+    N: Named + Send + Sync,
+    D: Disk + Drop + Send,
+    R: AllocGlobal
+        + Net<Listener = TcpListener, Stream = TcpStream>
+        + Clock
+        + Threads
+        + Wait
+        + Sync
+        + Eprint,
+    W: Write,
+>(
+    rt: &'a R,
+    office: Office<N, D>,
+    seats: Vec<Seat<N>>,
+    desks: Vec<Desk<N>>,
+    lines: &'a TcpLines<'a>,
+    watching: Watching<'_>,
+    asked: &Serve<'_>,
+    listening: &str,
+    output: &mut W,
+) -> Result<bool, ServeFault> {
+    let line = TcpLine::new(rt, lines, &lines.short, &lines.ended, idle_of(asked));
+    let posts = station_posts(rt.alloc(), &line, seats, desks)?;
+    serve_told(rt, office, posts, lines, watching, asked, listening, output)
+}
+
+/// The same over these posts, with the notices about their lines.
+fn serve_told<
+    L: GateLine + Drop + Send,
+    K: Lines + Sync,
+    N: Named + Send + Sync,
+    D: Disk + Drop + Send,
+    R: AllocGlobal + Clock + Threads + Wait + Sync + Eprint,
+    W: Write,
+>(
+    rt: &R,
+    office: Office<N, D>,
+    posts: Vec<Post<L, N>>,
+    lines: &K,
+    watching: Watching<'_>,
+    asked: &Serve<'_>,
+    listening: &str,
+    output: &mut W,
+) -> Result<bool, ServeFault>
+    requires { All (λ post. IsBelow (2 ^ 62) post.tally) posts.items }
+{
+    let watch = Notices::new(rt.alloc(), rt, lines, watching.watched)?;
+    serve_posts(
+        rt,
+        office,
+        posts,
+        &watch,
+        watching.failure,
+        asked,
+        listening,
+        output,
+    )
+}
+
+/// The same over these posts, with what the system answered behind the notice of a failed disk.
+fn serve_posts<
+    L: GateLine + Drop + Send,
+    N: Named + Send + Sync,
+    D: Disk + Drop + Send,
+    T: Watch + Sync,
+    R: AllocGlobal + Threads + Wait + Sync + Eprint,
+    W: Write,
+>(
+    rt: &R,
+    office: Office<N, D>,
+    posts: Vec<Post<L, N>>,
+    watch: &T,
+    failure: &Failure,
+    asked: &Serve<'_>,
+    listening: &str,
+    output: &mut W,
+) -> Result<bool, ServeFault>
+    requires { All (λ post. IsBelow (2 ^ 62) post.tally) posts.items }
+{
+    let watch = FailureWatch::new(rt, watch, failure, asked.journal);
     let connections = connections_of(asked);
     serve_office(rt, office, &watch, posts, listening, output, connections)
 }
@@ -214,6 +334,20 @@ fn status_of(halted: bool) -> ExitCode {
         ExitCode::from(1)
     } else {
         ExitCode::SUCCESS
+    }
+}
+
+/// What is watched over at a server, whose journal has this capacity and had so many touches.
+fn watched_by(asked: &Serve<'_>, capacity: u32, opened: u32, zone: Option<Zone>) -> Watched {
+    Watched {
+        ends: !asked.stay_halted,
+        asked: asked.lines,
+        capacity,
+        opened,
+        report: asked
+            .report
+            .map(|seconds| Duration::from_secs(u64::from(seconds))),
+        zone,
     }
 }
 

@@ -17,7 +17,7 @@ Example, with the tables that the journal names, and a seal of its touches:
 The journal is read alone, and stays as it is. A server may go on with it.
 
 Statuses: 0 the journal is sound, 1 a fault (standard error has its line),
-2 a wrong command line";
+2 a wrong command line, 3 sound, but more than one slot behind its end is open";
 
 /// What `history` does.
 const HISTORY_ABOUT: &str = "Writes each touch of a journal with its reply, oldest first";

@@ -1,7 +1,9 @@
 //! The commands at which gates are answered, and those for their tables and journals.
 
 use super::{Described, Parameter, Rule, Takes};
-use crate::arguments::{CAPACITY_LIMIT, CARDS_LIMIT, CONNECTIONS_LIMIT, IDLE_LIMIT, LINES_LIMIT};
+use crate::arguments::{
+    CAPACITY_LIMIT, CARDS_LIMIT, CONNECTIONS_LIMIT, IDLE_LIMIT, LINES_LIMIT, REPORT_LIMIT,
+};
 
 /// What `replay` does.
 const REPLAY_ABOUT: &str =
@@ -24,7 +26,14 @@ const CHECK_ABOUT: &str = "Says whether a file is a valid fare table, or what is
 const CHECK_EXAMPLE: &str = "Example:
   bovtrila check --table fares.toml
 
-Statuses: 0 the table is valid, 1 it is refused or a fault came, 2 a wrong command line";
+Example, what a journey from station 1 to station 3 costs that starts at this moment:
+  bovtrila check --table fares.toml --fare 1 3 2025-01-07T08:30:00Z
+
+Statuses: 0 the table is valid, 1 it is refused or a fault came, or with --strict a note,
+2 a wrong command line";
+
+/// What a journey is, as it is written.
+const JOURNEY_VALUES: [&str; 3] = ["FROM", "TO", "MOMENT"];
 
 /// What `serve` does.
 const SERVE_ABOUT: &str = "Serves gates over TCP, and keeps each touch in a journal";
@@ -35,13 +44,15 @@ const SERVE_USAGE: &str =
          --capacity <N> --lines <N> [REVISION]...";
 
 /// How `serve` is called, and how it ends.
-const SERVE_EXAMPLE: &str = "Example, a station of 8 gates:
+const SERVE_EXAMPLE: &str =
+    "Example, the first start of a station of 8 gates, which makes its journal:
   bovtrila serve --table fares.toml --journal station.journal --cards 1000 \\
     --capacity 1000000 --listen 127.0.0.1:4014 --lines 8
 
-Further tables are the last words. At each start they have to be all that the journal names:
+Each later one has --strict. Further tables are the last words, and then have to be all that the
+journal names:
   bovtrila serve --table fares.toml --journal station.journal --cards 1000 \\
-    --capacity 1000000 --listen 127.0.0.1:4014 --lines 8 fares-2026.toml
+    --capacity 1000000 --listen 127.0.0.1:4014 --lines 8 --strict fares-2026.toml
 
 Statuses: 0 all lines are done and the journal is closed, 1 a fault or a failed disk (standard
 error has the fault's line), 2 a wrong command line";
@@ -73,7 +84,7 @@ pub(super) const CHECK: Described = Described {
     about: CHECK_ABOUT,
     usage: None,
     example: CHECK_EXAMPLE,
-    parameters: &[TABLE],
+    parameters: &[TABLE, STRICT_TABLE, FARE],
 };
 
 /// The command `serve`.
@@ -91,7 +102,10 @@ pub(super) const SERVE: Described = Described {
         LINES,
         CONNECTIONS,
         IDLE,
+        REPORT,
         STAY_HALTED,
+        STRICT_JOURNAL,
+        STANDBY,
         REVISIONS,
     ],
 };
@@ -111,6 +125,26 @@ const TABLE: Parameter = Parameter {
     takes: Takes::Text("FILE"),
     rule: Rule::Required,
     help: "The file of the fare table, in TOML",
+};
+
+/// Whether notes count as faults.
+const STRICT_TABLE: Parameter = Parameter {
+    name: "strict",
+    takes: Takes::Flag,
+    rule: Rule::Without("fare"),
+    help: "Ends with status 1 where there is a note on a valid table:
+an unknown or misplaced key, prices that may be pounds,
+or a cap below a single fare that it covers",
+};
+
+/// The journey of which the fare is asked.
+const FARE: Parameter = Parameter {
+    name: "fare",
+    takes: Takes::Three(&JOURNEY_VALUES),
+    rule: Rule::Optional,
+    help: "Writes what a journey between two stations costs that starts
+at a moment in UTC, as 2025-01-07T08:30:00Z, and why,
+in place of the report",
 };
 
 /// The file of the fare table by which a replay answers.
@@ -142,7 +176,7 @@ const JOURNAL: Parameter = Parameter {
     name: "journal",
     takes: Takes::Text("FILE"),
     rule: Rule::Required,
-    help: "The journal's file, which is made where there is none",
+    help: "The journal's file, which is made where there is none, but with --strict",
 };
 
 /// Where gates connect.
@@ -183,8 +217,8 @@ const CONNECTIONS: Parameter = Parameter {
     name: "connections",
     takes: Takes::Number("N", CONNECTIONS_LIMIT),
     rule: Rule::Optional,
-    help: "How many connections each line serves before it is done, from 1 to 1000000;
-without it no line is ever done",
+    help: "How many connections each line serves before it is done,
+from 1 to 1000000; without it no line is ever done",
 };
 
 /// After how many seconds a silent connection is ended.
@@ -196,6 +230,15 @@ const IDLE: Parameter = Parameter {
 or the rest of a request didn't come; without it none is ended",
 };
 
+/// How often it is told how a server stands.
+const REPORT: Parameter = Parameter {
+    name: "report",
+    takes: Takes::Number("SECONDS", REPORT_LIMIT),
+    rule: Rule::Optional,
+    help: "Tells each so many seconds how the server stands, from 1 to 1000000;
+without it that isn't told",
+};
+
 /// What a server does whose journal's disk has failed.
 const STAY_HALTED: Parameter = Parameter {
     name: "stay-halted",
@@ -203,6 +246,25 @@ const STAY_HALTED: Parameter = Parameter {
     rule: Rule::Optional,
     help: "Goes on where the journal's disk has failed, for enquiries;
 without it the server then ends, to be started again",
+};
+
+/// What a server refuses of a journal.
+const STRICT_JOURNAL: Parameter = Parameter {
+    name: "strict",
+    takes: Takes::Flag,
+    rule: Rule::Optional,
+    help: "Makes no journal: refuses one that isn't there,
+or that has more than one open slot behind its end;
+without it the server makes one, and tells of such slots",
+};
+
+/// What a server does whose journal another one has.
+const STANDBY: Parameter = Parameter {
+    name: "standby",
+    takes: Takes::Flag,
+    rule: Rule::Optional,
+    help: "Waits where another server has the journal, and serves once that one
+has ended; without it the server is refused then",
 };
 
 /// The fare table by which an old journal was made.

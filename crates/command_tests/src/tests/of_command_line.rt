@@ -77,7 +77,7 @@ const HELPS: [(&str, &str, &str); 7] = [
     ),
     (
         "check",
-        "--table <FILE>\n",
+        "[OPTIONS] --table <FILE>\n",
         "  bovtrila check --table fares.toml\n",
     ),
     (
@@ -162,7 +162,16 @@ fn a_table_is_named_by_its_file(rt: HostRuntime) {
     let rows = [
         (
             "check --table fares.toml",
-            "Check { table: \"fares.toml\" }",
+            "Check(Check { table: \"fares.toml\", strict: false, journey: None })",
+        ),
+        (
+            "check --strict --table fares.toml",
+            "Check(Check { table: \"fares.toml\", strict: true, journey: None })",
+        ),
+        (
+            "check --table fares.toml --fare 1 65535 1970-01-02T01:01:01Z",
+            "Check(Check { table: \"fares.toml\", strict: false, \
+             journey: Some(Journey { from: 1, to: 65535, moment: 90061 }) })",
         ),
         (
             "replay --cards 10 --table fares.toml",
@@ -189,6 +198,14 @@ fn any_other_command_line_is_refused(rt: HostRuntime) {
         "check --table",
         "check fares.toml",
         "check --table fares.toml --cards 10",
+        "check --table fares.toml --fare 1 3",
+        "check --table fares.toml --fare 0 3 2025-01-07T08:30:00Z",
+        "check --table fares.toml --fare 1 65536 2025-01-07T08:30:00Z",
+        "check --table fares.toml --fare 1 +3 2025-01-07T08:30:00Z",
+        "check --table fares.toml --fare 1 3 2025-01-07T24:00:00Z",
+        "check --table fares.toml --fare 1 3 2025-02-29T08:30:00Z",
+        "check --table fares.toml --fare 1 3 1969-12-31T23:59:59Z",
+        "check --table fares.toml --strict --fare 1 3 2025-01-07T08:30:00Z",
     ];
     assert_refused(&rt, alloc, &refused);
     assert_same(&rt, status_of(alloc, &["bovtrila"]), Some(2));
@@ -234,7 +251,8 @@ fn further_tables_are_the_last_words(rt: HostRuntime) {
              --listen 127.0.0.1:0 --lines 64 --connections 2 b.toml a.toml",
             "Serve(Serve { table: \"fares.toml\", revisions: [\"b.toml\", \"a.toml\"], \
              journal: \"station.journal\", cards: 10, capacity: 100, listen: \"127.0.0.1:0\", \
-             lines: 64, connections: Some(2), idle: None, stay_halted: false })",
+             lines: 64, connections: Some(2), idle: None, report: None, stay_halted: false, \
+             strict: false, standby: false })",
         ),
     ];
     assert_asked(&rt, rt.alloc(), &rows);
@@ -247,21 +265,21 @@ fn a_line_is_never_done_where_no_number_of_connections_is_named(rt: HostRuntime)
             "serve --table a.toml --journal b --cards 10 --capacity 100 --listen c --lines 64",
             "Serve(Serve { table: \"a.toml\", revisions: [], journal: \"b\", cards: 10, \
              capacity: 100, listen: \"c\", lines: 64, connections: None, idle: None, \
-             stay_halted: false })",
+             report: None, stay_halted: false, strict: false, standby: false })",
         ),
         (
             "serve --table a.toml --journal b --cards 10 --capacity 100 --listen c --lines 64 \
              --connections 1",
             "Serve(Serve { table: \"a.toml\", revisions: [], journal: \"b\", cards: 10, \
              capacity: 100, listen: \"c\", lines: 64, connections: Some(1), idle: None, \
-             stay_halted: false })",
+             report: None, stay_halted: false, strict: false, standby: false })",
         ),
         (
             "serve --table a.toml --journal b --cards 10 --capacity 100 --listen c --lines 64 \
              --connections 1000000",
             "Serve(Serve { table: \"a.toml\", revisions: [], journal: \"b\", cards: 10, \
              capacity: 100, listen: \"c\", lines: 64, connections: Some(1000000), idle: None, \
-             stay_halted: false })",
+             report: None, stay_halted: false, strict: false, standby: false })",
         ),
     ];
     assert_asked(&rt, rt.alloc(), &rows);
@@ -283,14 +301,30 @@ fn a_server_needs_its_tables_its_journal_and_its_numbers(rt: HostRuntime) {
              --listen 127.0.0.1:0 --lines 64 --connections 2",
             "Serve(Serve { table: \"fares.toml\", revisions: [], journal: \"station.journal\", \
              cards: 10, capacity: 100, listen: \"127.0.0.1:0\", lines: 64, connections: Some(2), \
-             idle: None, stay_halted: false })",
+             idle: None, report: None, stay_halted: false, strict: false, standby: false })",
         ),
         (
             "serve --table fares.toml --journal station.journal --cards 10 --capacity 100 \
-             --listen 127.0.0.1:0 --lines 64 --connections 2 --idle 600 --stay-halted",
+             --listen 127.0.0.1:0 --lines 64 --connections 2 --idle 600 --report 3600 \
+             --stay-halted",
             "Serve(Serve { table: \"fares.toml\", revisions: [], journal: \"station.journal\", \
              cards: 10, capacity: 100, listen: \"127.0.0.1:0\", lines: 64, connections: Some(2), \
-             idle: Some(600), stay_halted: true })",
+             idle: Some(600), report: Some(3600), stay_halted: true, strict: false, \
+             standby: false })",
+        ),
+        (
+            "serve --table a.toml --journal b --cards 10 --capacity 100 --listen c --lines 64 \
+             --strict d.toml",
+            "Serve(Serve { table: \"a.toml\", revisions: [\"d.toml\"], journal: \"b\", cards: 10, \
+             capacity: 100, listen: \"c\", lines: 64, connections: None, idle: None, \
+             report: None, stay_halted: false, strict: true, standby: false })",
+        ),
+        (
+            "serve --standby --table a.toml --journal b --cards 10 --capacity 100 --listen c \
+             --lines 64",
+            "Serve(Serve { table: \"a.toml\", revisions: [], journal: \"b\", cards: 10, \
+             capacity: 100, listen: \"c\", lines: 64, connections: None, idle: None, \
+             report: None, stay_halted: false, strict: false, standby: true })",
         ),
     ];
     assert_asked(&rt, rt.alloc(), &rows);
@@ -300,6 +334,8 @@ fn a_server_needs_its_tables_its_journal_and_its_numbers(rt: HostRuntime) {
         "serve --table a --journal b --cards 10 --capacity 9 --listen c --lines +2",
         "serve --table a --journal b --cards 10 --capacity 9 --listen c --lines -1",
         "serve --table a --journal b --cards 10 --capacity 9 --listen c --lines x",
+        "serve --table a --journal b --cards 10 --capacity 9 --listen c --lines 2 --report 0",
+        "serve --table a --journal b --cards 10 --capacity 9 --listen c --lines 2 --report 1000001",
         "serve --table a --journal b --cards 10 --capacity 9 --listen c",
     ];
     assert_refused(&rt, rt.alloc(), &refused);

@@ -4,7 +4,7 @@ use std::alloc::Global;
 use std::fmt::{Debug, Write};
 use std::process::Abort;
 use std::test::Fail;
-use table_notes::{Survey, SurveyFault, look_over};
+use table_notes::{Found, Sheet, Survey, SurveyFault, Wanted, look_over};
 
 /// These are equal, in the case of `at`.
 fn assert_same_at<T: PartialEq + Debug + Copy, C: Debug + Copy>(
@@ -42,13 +42,37 @@ fn misread(alloc: Global, bytes: &[u8]) -> Result<String, Fail> {
     }
 }
 
-/// What of a text is above its maximum, as it is told. Nothing is told by nothing.
-fn above(alloc: Global, text: &str) -> Result<String, Fail> {
-    let survey = survey_of(alloc, text)?;
-    match &survey.above {
-        Some(above) => Ok(above.to_string(alloc)?),
-        None => Ok(String::new(alloc)),
+/// A text that is a document.
+fn sheet_of(alloc: Global, text: &'static str) -> Result<Sheet<'static>, Fail> {
+    match Sheet::read(alloc, text.as_bytes()) {
+        Ok(sheet) => Ok(sheet),
+        Err(_) => Err("no document".into()),
     }
+}
+
+/// What is told of a place in a text: its line, 0 where it has none, and what stands there, nothing
+/// where nothing does.
+fn told(alloc: Global, text: &'static str, wanted: Wanted) -> Result<String, Fail> {
+    let sheet = sheet_of(alloc, text)?;
+    let line = sheet.line_of(wanted).unwrap_or(0);
+    let mut said = String::new(alloc);
+    write!(said, "{line}: ")?;
+    if let Some(value) = sheet.value_of(wanted) {
+        let found = Found { value };
+        write!(said, "{found}")?;
+    }
+    Ok(said)
+}
+
+/// What of a text is above its maximum, as it is told, with its line. Nothing is told by nothing.
+fn above(alloc: Global, text: &'static str) -> Result<String, Fail> {
+    let sheet = sheet_of(alloc, text)?;
+    let mut said = String::new(alloc);
+    if let Some(above) = sheet.above() {
+        let line = sheet.line_of(above.price).unwrap_or(0);
+        write!(said, "line {line}: {above}")?;
+    }
+    Ok(said)
 }
 
 /// Texts, each with what is told of the keys that are unknown.
@@ -115,7 +139,8 @@ fn the_rows_of_lists_that_may_be_left_out_are_counted(rt: HostRuntime) -> Result
 #[test]
 fn a_text_that_is_no_document_is_told_by_its_place(rt: HostRuntime) -> Result<(), Fail> {
     let alloc = rt.alloc();
-    let rows: [(&[u8], &str); 3] = [
+    let rows: [(&[u8], &str); 4] = [
+        (b"x = 1\ny = 0190\n", "line 2, column "),
         (b"zone = 1\n# \xff\n", "line 2, column 3: "),
         (b"# \xc3\xa4\nx = \xff", "line 2, column 5: "),
         (b"zone = \"GMT0\"\nx =\n", "line 2, column 4: "),
@@ -133,17 +158,17 @@ static ABOVE: [(&str, &str); 4] = [
     ("", ""),
     (
         "maximum_peak = 9\nmaximum_off_peak = 10",
-        "maximum_off_peak is above maximum_peak",
+        "line 2: at most maximum_peak, 9",
     ),
     (
         "maximum_peak = 9\nmaximum_off_peak = 7\n\
-         single = [{peak = 9, off_peak = 7}, {peak = 9, off_peak = 8}]\n\
+         single = [{peak = 9, off_peak = 7},\n {peak = 9, off_peak = 8}]\n\
          pair = [{peak = 10, off_peak = 7}]",
-        "single.off_peak in row 2 is above maximum_off_peak",
+        "line 4: at most maximum_off_peak, 7",
     ),
     (
-        "maximum_peak = 9\nmaximum_off_peak = 7\npair = [{}, 1, {peak = 10, off_peak = 8}]",
-        "pair.peak in row 3 is above maximum_peak",
+        "maximum_peak = 9\nmaximum_off_peak = 7\npair = [{}, 1,\n\n{peak = 10, off_peak = 8}]",
+        "line 5: at most maximum_peak, 9",
     ),
 ];
 
@@ -152,6 +177,76 @@ fn the_first_price_above_its_maximum_is_told(rt: HostRuntime) -> Result<(), Fail
     let alloc = rt.alloc();
     for (text, words) in ABOVE.as_slice() {
         let told = above(alloc, *text)?;
+        assert_same_at(&rt, told.as_str(), *words, *text);
+    }
+    Ok(())
+}
+
+/// Texts with what is looked for in them, and its line and what stands there.
+static PLACES: [(&str, Wanted, &str); 12] = [
+    (
+        "a = 1\nzone = \"G\\tB\"\n",
+        Wanted::Key("zone"),
+        "2: \"G\\tB\"",
+    ),
+    (
+        "# zone = 1\n'zone' = [1, 2]",
+        Wanted::Key("zone"),
+        "2: a list of 2",
+    ),
+    (
+        "x = \"\"\"\nzone = 1\"\"\"\"\nzone = true",
+        Wanted::Key("zone"),
+        "3: true",
+    ),
+    (
+        "b.zone = 1\nzone = 1.5",
+        Wanted::Key("zone"),
+        "2: a number with a decimal point",
+    ),
+    ("a = 1", Wanted::Key("zone"), "0: "),
+    (
+        "cap = [\n{lo = 1},\n{hi = 2, lo = 3}]",
+        Wanted::Cell("cap", 2, "lo"),
+        "3: 3",
+    ),
+    (
+        "cap = [ # [\n[1, 2], {lo = [\n1], hi = 2}]",
+        Wanted::Cell("cap", 2, "hi"),
+        "3: 2",
+    ),
+    (
+        "[[cap]]\nlo = 1\n[[pair]]\nlo = 2\n[[cap]]\nhi = 3\nlo = 4",
+        Wanted::Cell("cap", 2, "lo"),
+        "7: 4",
+    ),
+    (
+        "[[cap]]\n[cap.x]\nlo = 1\n[[cap]]\nlo = -2",
+        Wanted::Cell("cap", 2, "lo"),
+        "5: -2",
+    ),
+    (
+        "[[cap]]\n[[ cap ]] # two\nlo = 1",
+        Wanted::Row("cap", 2),
+        "2: a table",
+    ),
+    (
+        "holidays = [\n\"a\", 2025-01-07, \n3]",
+        Wanted::Row("holidays", 2),
+        "2: a date without quotes",
+    ),
+    (
+        "holidays = [\n\"a\", 2025-01-07, \n3]",
+        Wanted::Row("holidays", 4),
+        "0: ",
+    ),
+];
+
+#[test]
+fn a_key_is_told_by_its_line_with_what_stands_there(rt: HostRuntime) -> Result<(), Fail> {
+    let alloc = rt.alloc();
+    for (text, wanted, words) in PLACES.as_slice() {
+        let told = told(alloc, *text, *wanted)?;
         assert_same_at(&rt, told.as_str(), *words, *text);
     }
     Ok(())

@@ -1,6 +1,6 @@
 use Rattle.std.proofs.Common.{◌≡◌, inl, inr, refl}
 use Rattle.reply_book.specs.Tables.{tables_in}
-use Rattle.journal_commands.specs.Journals.{balances_fault}
+use Rattle.journal_commands.specs.Command.{audit_fault}
 use Rattle.journal_commands.specs.declared.fault.CommandFault.TheVariants.{Trial}
 use Rattle.journal_commands.proofs.WordLemmas.{handed-on}
 use Rattle.journal_commands.proofs.balances.tell_balances.Goals as goal
@@ -17,7 +17,7 @@ pub returns-in_err-totals-clause-fault : goal.returns-in_err-totals-clause-fault
 returns-in_err-totals-clause-fault g c =
     let named = rw c.as_slice.ensures.value at c.in_ok-schedule.ensures.ok in
     let told = rw c.deref.ensures.value at c.in_err-totals.ensures in
-    handed-on _ c.from_residual-in_err-totals.result (balances_fault c.in_err-totals.field-0.0)
+    handed-on _ c.from_residual-in_err-totals.result (audit_fault c.in_err-totals.field-0.0)
     c.from_residual-in_err-totals.ensures.1
     (inr (
       c.in_err-totals.field-0.0,

@@ -1,6 +1,6 @@
 use Rattle.std.proofs.Common.{◌≡◌, inl, inr, refl}
 use Rattle.reply_book.specs.Tables.{tables_in}
-use Rattle.journal_commands.specs.Journals.{history_fault}
+use Rattle.journal_commands.specs.Command.{audit_fault}
 use Rattle.journal_commands.specs.declared.fault.CommandFault.TheVariants.{Trial}
 use Rattle.journal_commands.proofs.WordLemmas.{handed-on}
 use Rattle.journal_commands.proofs.history.tell_history.Goals as goal
@@ -18,7 +18,7 @@ returns-in_err-write_history-clause-fault g c =
     let named = rw c.as_slice.ensures.value at c.in_ok-schedule.ensures.ok in
     let wanted = rw c.wanted_of-wanted.ensures at c.in_err-write_history.ensures in
     let told = rw c.format_of-format.ensures at wanted in
-    handed-on _ c.from_residual-in_err-write_history.result (history_fault c.in_err-write_history.field-0.0)
+    handed-on _ c.from_residual-in_err-write_history.result (audit_fault c.in_err-write_history.field-0.0)
     c.from_residual-in_err-write_history.ensures.1
     (inr (
       c.in_err-write_history.field-0.0,

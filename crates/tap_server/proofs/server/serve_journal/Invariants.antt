@@ -1,6 +1,6 @@
 use Rattle.std.proofs.Common.{Some}
 use Rattle.tap_office.specs.Opening.{opened_of}
-use Rattle.tap_server.proofs.server.serve_gates.Given as goal
+use Rattle.tap_server.proofs.server.serve_journal.Given as goal
 
 -- the name stands for the opening that was read
 abbrev pub ghosts-serve_opening-N-Named : goal.ghosts-serve_opening-N-Named

@@ -1,0 +1,121 @@
+//! The journal of a server: its file is taken, and made where there is none and that is allowed.
+
+ghost use Rattle.std.specs.Prelude.{◌≡◌, true, false, IfErr, IfOk};
+
+use crate::failure::{ErrorText, Failure};
+use crate::noted::NotedDisk;
+use command_line::Serve;
+use journal_commands::{
+    CommandFault, JournalLock, Unprepared, journal_refusal, missing_refusal, prepare,
+    refused_journal, take_journal,
+};
+use std::fs::{self, File};
+use std::rt::Files;
+use std::thread;
+use std::time::{Clock, Duration};
+use table_commands::{Detail, Refusal};
+use tap_disk::FileDisk;
+use tap_journal::JournalFault;
+
+/// How many seconds a server on standby waits between two tries.
+const PAUSE: u64 = 1;
+
+/// The file of a journal, as a server takes it.
+#[derive(Drop)]
+struct JournalPath<'a, R> {
+    /// What it is taken by.
+    rt: &'a R,
+    /// Its path.
+    path: &'a str,
+    /// Whether it has to be there.
+    is_strict: bool,
+    /// Whether the waiting was told.
+    has_told: bool,
+}
+
+impl<R: AllocGlobal + Files<File = File> + Clock + Eprint> JournalLock<FileDisk>
+    for JournalPath<'_, R> {
+    fn take(&mut self) -> Result<FileDisk, Refusal> {
+        if self.is_strict {
+            if let Some(refusal) = missing_refusal(self.rt, self.path) {
+                return Err(refusal);
+            }
+        }
+        match FileDisk::at(self.rt, self.path) {
+            Ok(disk) => Ok(disk),
+            Err(_) => Err(journal_refusal(self.rt, self.path, true)),
+        }
+    }
+
+    /// Tells once that it waits.
+    fn wait(&mut self) {
+        if !self.has_told {
+            self.has_told = true;
+            let path = self.path;
+            let _ = eprintln!(self.rt; "waiting for {path}");
+        }
+        thread::sleep(self.rt, Duration::from_secs(PAUSE));
+    }
+}
+
+/// The disk of the journal's file. Where the file is empty, and the server isn't strict, a journal of no
+/// touches is made there, for the first table of this digest, and told of.
+pub(crate) fn journal_disk<'a, R: AllocGlobal + Files<File = File> + Clock + Eprint>(
+    rt: &R,
+    failure: &'a Failure,
+    digest: &[u8; 32],
+    asked: &Serve<'_>,
+) -> Result<NotedDisk<'a, FileDisk>, CommandFault> {
+    let mut file = JournalPath {
+        rt,
+        path: asked.journal,
+        is_strict: asked.strict,
+        has_told: false,
+    };
+    match take_journal(&mut file, asked.standby) {
+        Ok(disk) => made_disk(rt, NotedDisk::over(disk, failure), failure, digest, asked),
+        Err(refusal) => Err(refused_journal(rt.alloc(), asked.journal, refusal)),
+    }
+}
+
+/// This disk, with a journal where it was empty. A file on which the making failed is removed, if it can
+/// be, while its lock is held.
+fn made_disk<'a, R: AllocGlobal + Files<File = File> + Eprint>(
+    rt: &R,
+    disk: NotedDisk<'a, FileDisk>,
+    failure: &Failure,
+    digest: &[u8; 32],
+    asked: &Serve<'_>,
+) -> Result<NotedDisk<'a, FileDisk>, CommandFault> {
+    match prepare(disk, digest, asked) {
+        Ok(prepared) => {
+            if prepared.is_new {
+                let path = asked.journal;
+                let _ = eprintln!(rt; "new journal {path}");
+            }
+            Ok(prepared.disk)
+        }
+        Err(Unprepared::Unseen(fault)) => Err(device_fault(rt, failure, asked, fault)),
+        Err(Unprepared::Unmade(fault, disk)) => {
+            let _ = fs::remove_file(rt, asked.journal);
+            drop(disk);
+            Err(device_fault(rt, failure, asked, fault))
+        }
+    }
+}
+
+/// This fault, with what the system answered behind it where the disk has failed.
+pub(crate) fn device_fault<R: AllocGlobal>(
+    rt: &R,
+    failure: &Failure,
+    asked: &Serve<'_>,
+    fault: CommandFault,
+) -> CommandFault {
+    match (&fault, failure.number()) {
+        (CommandFault::Journal(JournalFault::Device, _), Some(number)) => {
+            let detail = Detail::of(rt.alloc(), asked.journal, &ErrorText(number));
+            fault.with(detail)
+        }
+        _ => fault,
+    }
+}
