@@ -1,0 +1,5 @@
+mod Examples
+pub mod NumberLemmas
+pub mod ClientLemmas
+pub mod CauseLemmas
+pub mod FrameLemmas

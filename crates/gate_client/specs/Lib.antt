@@ -1,0 +1,4 @@
+pub mod File
+pub mod Causes
+pub mod Client
+pub mod Heard

@@ -1,0 +1,197 @@
+//! What a client writes of its touch, and reads of an answer (docs/PROTOCOL.md, "Frames").
+ghost use Rattle.std.specs.Prelude.{◌≡◌, ◌≤◌, ◌∷◌, ℕ, Result, Err, IfOk, IfErr, IfSome, take};
+ghost use Rattle.std.specs.Io.KnownBytes.{Consumes};
+ghost use Rattle.oyster_account.specs.declared.touch.TheConstants.{TOUCH_SIZE};
+ghost use Rattle.oyster_account.specs.Touch.{Fits};
+ghost use Rattle.gate_session.specs.declared.answer.Answer.TheVariants as answers;
+ghost use Rattle.gate_session.specs.declared.frame.TheConstants.{ANSWER_SIZE, REQUEST_SIZE};
+ghost use Rattle.gate_session.specs.Answers.{answer_frame};
+ghost use Rattle.gate_session.specs.Writing.{Wrote};
+ghost use Rattle.gate_client.specs.Heard.{frame_of, IsSent, IsUnder};
+
+use crate::{HearFault, LineFault};
+use byteorder::{BigEndian, ByteOrder};
+use gate_session::{ANSWER_SIZE, Answer, REQUEST_SIZE, write_whole};
+use oyster_account::{Act, Reply, TOUCH_SIZE, Touch, read_i32, read_u16, read_u32};
+use std::io::{Read, Write};
+
+/// The bytes that a frame's length takes.
+const LENGTH_SIZE: usize = REQUEST_SIZE - TOUCH_SIZE;
+/// The most bytes of an answer behind its length.
+const BODY_SIZE: usize = ANSWER_SIZE - LENGTH_SIZE;
+
+/// Writes the frame of a touch.
+pub(crate) fn write_touch<W: Write>(writer: &mut W, touch: &Touch) -> Result<(), LineFault>
+    ensures written { Wrote (W.contents writer.old) (W.contents writer.new)
+        (λ text. IsSent touch.now text result) }
+    ensures fits { Fits touch.now }
+{
+    touch_fits(touch);
+    let mut frame = [0; REQUEST_SIZE];
+    let size = write_frame(touch, &mut frame);
+    match write_whole(writer, &frame[..size]) {
+        Ok(()) => Ok(()),
+        Err(_) => Err(LineFault),
+    }
+}
+
+/// Writes the frame of a touch to the front of `frame`, and answers how many bytes it has.
+fn write_frame(touch: &Touch, frame: &mut [u8; REQUEST_SIZE]) -> usize
+    ensures within { result ≤ REQUEST_SIZE }
+    ensures written { take result frame.new ≡ frame_of touch.now }
+{
+    let mut body = [0; TOUCH_SIZE];
+    let size = touch.write_into(&mut body);
+    BigEndian::write_u16(&mut frame[..LENGTH_SIZE], size as u16);
+    frame[LENGTH_SIZE..].copy_from_slice(&body);
+    LENGTH_SIZE + size
+}
+
+/// Each number of a touch is of its type, which the law that a frame is of one request needs.
+fn touch_fits(touch: &Touch)
+    ensures { Fits touch.now }
+{
+    let Touch {
+        gate: _gate,
+        number: _number,
+        card: _card,
+        act,
+    } = *touch;
+    match act {
+        Act::Enter {
+            station: _station,
+            moment: _moment,
+        }
+        | Act::Leave {
+            station: _station,
+            moment: _moment,
+        } => {}
+        Act::TopUp {
+            pence: _pence,
+            moment: _moment,
+        } => {}
+        Act::Issue { moment: _moment } => {}
+        Act::Revise {
+            digest: _digest,
+            day: _day,
+            moment: _moment,
+        } => {}
+    }
+}
+
+/// Reads the answer to a touch: a reply or a fault.
+///
+/// `NoAnswer` comes where a read failed or the input ended, or what was read is neither's frame.
+pub(crate) fn read_answer<R: Read>(reader: &mut R) -> Result<Answer, HearFault>
+    ensures read { IfOk result (λ answer. Consumes (R.remaining reader.old)
+        (R.remaining reader.new) (answer_frame answer)) }
+    ensures none { IfErr result (λ fault. fault ≡ HearFault.NoAnswer) }
+{
+    let mut frame = [0; ANSWER_SIZE];
+    match read_frame(reader, &mut frame) {
+        Some(size) => answer_in(&frame[..size]).ok_or(HearFault::NoAnswer),
+        None => Err(HearFault::NoAnswer),
+    }
+}
+
+/// Reads a length and as many bytes behind it to the front of `frame`, and answers how many bytes
+/// these are together. `None` where a read failed or the input ended, or no answer is so long.
+fn read_frame<R: Read>(reader: &mut R, frame: &mut [u8; ANSWER_SIZE]) -> Option<usize>
+    ensures within { IfSome result (λ size. size ≤ ANSWER_SIZE) }
+    ensures read { IfSome result (λ size. Consumes (R.remaining reader.old)
+        (R.remaining reader.new) (take size frame.new)) }
+{
+    let mut length = [0; LENGTH_SIZE];
+    let Ok(()) = reader.read_exact(&mut length) else {
+        return None;
+    };
+    let size = BigEndian::read_u16(&length) as usize;
+    if size > BODY_SIZE {
+        return None;
+    }
+    let mut body = [0; BODY_SIZE];
+    let Ok(()) = reader.read_exact(&mut body[..size]) else {
+        return None;
+    };
+    frame[..LENGTH_SIZE].copy_from_slice(&length);
+    frame[LENGTH_SIZE..].copy_from_slice(&body);
+    Some(LENGTH_SIZE + size)
+}
+
+/// The answer to a touch whose frame these bytes are. `None` where they are no such frame.
+fn answer_in(frame: &[u8]) -> Option<Answer>
+    ensures { IfSome result (λ answer. frame.now ≡ answer_frame answer) }
+{
+    let answer = if frame.len() == ANSWER_SIZE {
+        reply_in(frame)?
+    } else {
+        fault_in(frame)?
+    };
+    // What was read is compared with the whole frame of what it was read as.
+    let mut written = [0; ANSWER_SIZE];
+    let size = answer.write_into(&mut written);
+    if frame == &written[..size] {
+        Some(answer)
+    } else {
+        None
+    }
+}
+
+/// The reply whose fields stand behind a length and a kind.
+fn reply_in(frame: &[u8]) -> Option<Answer> {
+    let (_length, rest) = read_u16(frame)?;
+    let (_kind, rest) = rest.split_first()?;
+    let (gate, rest) = read_u16(rest)?;
+    let (number, rest) = read_u32(rest)?;
+    let (verdict, rest) = rest.split_first()?;
+    let (change, rest) = read_i32(rest)?;
+    let (balance, _rest) = rest.split_first_chunk::<8>()?;
+    Some(Answer::Reply {
+        gate,
+        number,
+        reply: Reply {
+            verdict: *verdict,
+            change,
+            balance: i64::from_be_bytes(*balance),
+        },
+    })
+}
+
+/// The fault whose fields stand behind a length and a kind.
+fn fault_in(frame: &[u8]) -> Option<Answer> {
+    let (_length, rest) = read_u16(frame)?;
+    let (_kind, rest) = rest.split_first()?;
+    let (code, rest) = rest.split_first()?;
+    let (gate, rest) = read_u16(rest)?;
+    let (number, _rest) = read_u32(rest)?;
+    Some(Answer::Fault {
+        code: *code,
+        gate,
+        number,
+    })
+}
+
+/// What an answer says of a touch: the reply that is under its gate and number.
+///
+/// `Stray` comes where it is under another, and `Refused` with a fault's code.
+pub(crate) fn reply_to(touch: &Touch, answer: &Answer) -> Result<Reply, HearFault>
+    ensures ok { IfOk result (λ reply.
+        answer.now ≡ answers.Reply touch.now.gate touch.now.number reply) }
+    ensures refused { (code : ℕ) → result ≡ Err (HearFault.Refused code)
+        → answer.now ≡ answers.Fault code touch.now.gate touch.now.number }
+    ensures stray { result ≡ Err HearFault.Stray
+        → IsUnder touch.now.gate touch.now.number answer.now → ⊥ }
+    ensures some { result ≡ Err HearFault.NoAnswer → ⊥ }
+{
+    match answer {
+        Answer::Reply {
+            gate,
+            number,
+            reply,
+        } if *gate == touch.gate && *number == touch.number => Ok(*reply),
+        Answer::Fault { code, gate, number } if *gate == touch.gate && *number == touch.number => {
+            Err(HearFault::Refused(*code))
+        }
+        _ => Err(HearFault::Stray),
+    }
+}
