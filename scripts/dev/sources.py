@@ -1,9 +1,11 @@
 """What the scripts read in the sources: the functions of a text, the wrong bodies of a crate, and on what one rests.
 
-docs/proofs/tried.json has a row for each wrong body that was tried, with a digest of what that rests on: the
-toolchain's logic, the wrong body's change, the crate's `src/`, `specs/` and `proofs/`, and of each library of the
-repository below it what a caller sees: `specs/`, and `src/` without bodies and comments. Tests don't count.
+crates/tried.json has a row for each wrong body that was tried, with a digest of what that rests on: the toolchain's
+logic, the wrong body's change, the crate's `src/`, `specs/` and `proofs/`, and of each library of the repository below
+it what a caller sees: `specs/`, and `src/` without bodies and comments. Tests don't count.
 """
+import collections
+import dataclasses
 import functools
 import hashlib
 import json
@@ -17,10 +19,16 @@ import refusals
 FUNCTION = re.compile(r"^(?P<indent> {0,4})(?:(?P<pub>pub )|pub\([^)]*\) )?(?:const |unsafe )*fn (?P<name>\w+)", re.M)
 COMMENT = re.compile(r"^ *(?://|--).*\n", re.M)
 TESTS = re.compile(r"\n#\[cfg\(test\)\]\nmod tests;\n")
-# What holds functions: an impl or a trait, from its first column to the brace that ends it.
-OWNER = re.compile(r"^(?:pub )?(?:unsafe )?(?P<kind>impl|trait)\b(?P<head>[^{\n]*(?:\n[^{}\n]*)*?)\{$", re.M)
+# What holds functions: an impl or a trait, from its first column to the brace that opens it, and to the one that ends it.
+HEAD = r"^(?:pub )?(?:unsafe )?(?P<kind>impl|trait)\b(?P<head>[^{\n]*(?:\n[^{}\n]*)*?)\{"
+OWNER = re.compile(HEAD + "$", re.M)
+BLOCK = re.compile(HEAD + r"\n(?P<body>.*?)^\}", re.M | re.S)
+GENERICS = re.compile(r"^<(?:[^<>]|<[^<>]*>)*>")
+CLAUSE = re.compile(r"\bensures(?: +(?P<label>\w+))? *\{")
+# What an impl or a trait states beside its functions.
+MEMBER = re.compile(r"^ {4}ghost (?!use\b)(?P<name>\w+)(?: =|:) \{", re.M)
 
-TRIED = ("scripts/wrong-bodies writes this file: for each wrong body that was tried, a digest of what that rested on (the "
+TRIED = ("scripts/dev/wrong-bodies writes this file: for each wrong body that was tried, a digest of what that rested on (the "
          "toolchain's logic, the change, the crate's code, definitions and proofs, the contracts of the libraries below "
          "it), the goals that stayed open in each function and the written answers that were refused; with the right "
          "body beside it, likewise")
@@ -40,14 +48,105 @@ def heads(text, indent):
         yield match, close
 
 
+def functions(text, indent):
+    """The functions at this indentation, with whether they are public and the labels of their clauses."""
+    for match, close in heads(text, indent):
+        head = text[match.start():close]
+        yield match["name"], bool(match["pub"]), [clause["label"] or "ensures" for clause in CLAUSE.finditer(head)]
+
+
+@dataclasses.dataclass
+class Owner:
+    """An impl or a trait: the type's name or the trait's own, the name of the trait that it is an impl of, its members and
+    its body."""
+    name: str
+    trait: str  # empty for a trait and for an impl of none
+    is_trait: bool
+    members: set
+    body: str
+
+
+def owners(text):
+    """The impls and traits of a text."""
+    for block in BLOCK.finditer(text):
+        head = GENERICS.sub("", block["head"].strip())
+        is_trait = block["kind"] == "trait"
+        trait, _, subject = ("", "", head) if is_trait or not re.search(r"\bfor\b", head) else head.rpartition(" for ")
+        yield Owner(re.search(r"\w+", subject)[0], trait and re.match(r"(?:\w+::)*(\w+)", trait.strip())[1], is_trait,
+                    set(MEMBER.findall(block["body"])), block["body"])
+
+
+@dataclasses.dataclass
+class Signature:
+    """What is stated of a function: the labels of its clauses, the members of its impl, and of which trait that is one."""
+    labels: list
+    members: set
+    trait: str
+
+
+@functools.cache
+def signatures(top, name):
+    """What is stated of each function of a crate, by `function` and by `Owner::function`. One name may stand for several."""
+    found = collections.defaultdict(list)
+    for file in sorted((top / "crates" / name / "src").rglob("*.rt")):
+        text = file.read_text()
+        for function, _, labels in functions(BLOCK.sub("", text), 0):
+            found[function].append(Signature(labels, set(), ""))
+        for owner in owners(text):
+            members, trait = (set(), owner.name) if owner.is_trait else (owner.members, owner.trait)
+            for function, _, labels in functions(owner.body, 4):
+                said = Signature(labels, members, trait)
+                found[f"{owner.name}::{function}"].append(said)
+                found[function].append(said)
+    return found
+
+
+@functools.cache
+def trait_labels(top):
+    """The labels of the clauses of each trait's functions, by `Trait::function`, in all crates."""
+    found = {}
+    for name in workspace(top):
+        for file in sorted((top / "crates" / name / "src").rglob("*.rt")):
+            for owner in owners(file.read_text()):
+                if owner.is_trait:
+                    found |= {f"{owner.name}::{function}": labels for function, _, labels in functions(owner.body, 4)}
+    return found
+
+
+def label_in_goals(top, crate, function, label):
+    """The label that the goals of a clause have which a wrong body names, `None` where nothing states it. A clause that is
+    its function's only one has none in its goals."""
+    own = "::".join(function.split("::")[-2:])
+    said = signatures(top, crate)
+    for one in said.get(own) or said.get(own.split("::")[-1], []):
+        stated = [one.labels, trait_labels(top).get(f"{one.trait}::{own.split('::')[-1]}", [])]
+        for labels in stated:
+            if label in labels:
+                return label if len(labels) > 1 else "ensures"
+        if label in one.members:
+            # What a text is printed as is a clause `writes` of the trait's own.
+            return "writes" if label == "output" else "ensures"
+        # A trait of another crate has its own labels.
+        if not one.labels and one.trait and f"{one.trait}::{own.split('::')[-1]}" not in trait_labels(top):
+            return label
+        if refusals.is_goal(label) and not label.startswith("returns"):
+            return label
+    return None
+
+
+def module_at(path):
+    """The module of a file of src/, as `rt check --only` takes it. Empty for the crate's root, and outside of src/."""
+    parts = pathlib.PurePath(path).with_suffix("").parts
+    return "::".join(part for part in parts[1:] if part not in ("lib", "main", "mod")) if parts[0] == "src" else ""
+
+
 def function_at(path, text, at):
     """The function of a file of src/ that has this place: a free one by its path below the crate, that of a type as
     `Type::name`, and that in an impl of a trait as `module::*::name`, since the checker gives the type a name of its
     own there. `None`: it stands in no function."""
-    parts = pathlib.PurePath(path).with_suffix("").parts
-    if parts[0] != "src":
+    if pathlib.PurePath(path).parts[0] != "src":
         return None
-    module = [part for part in parts[1:] if part not in ("lib", "main", "mod")]
+    module = [module_at(path)] if module_at(path) else []
     found = None
     for indent in (0, 4):
         for match, close in heads(text, indent):
@@ -59,7 +158,7 @@ def function_at(path, text, at):
         owner = [one for one in OWNER.finditer(text) if one.end() <= at][-1]
         if owner["kind"] == "trait" or re.search(r"\bfor\b", owner["head"]):
             return "::".join([*module, f"*::{found['name']}"])
-        subject = re.sub(r"^<(?:[^<>]|<[^<>]*>)*>", "", owner["head"].strip())
+        subject = GENERICS.sub("", owner["head"].strip())
         return f"{re.search(r'[A-Za-z_]+', subject)[0]}::{found['name']}"
     return "::".join([*module, found["name"]])
 
@@ -147,8 +246,8 @@ def digests(top, name):
 
 
 def tried(top):
-    """The rows of docs/proofs/tried.json: by crate, for each wrong body its digest and what was said of it."""
-    file = top / "docs" / "proofs" / "tried.json"
+    """The rows of crates/tried.json: by crate, for each wrong body its digest and what was said of it."""
+    file = top / "crates" / "tried.json"
     rows = json.loads(file.read_text())["tried"] if file.is_file() else []
     found = {}
     for row in rows:
@@ -158,10 +257,10 @@ def tried(top):
 
 
 def write_tried(top, rows):
-    """Writes docs/proofs/tried.json from these rows, a line each, sorted by name."""
+    """Writes crates/tried.json from these rows, a line each, sorted by name."""
     lines = [json.dumps({"body": f"{name}/{edit}", **rows[name][edit]}) for name in sorted(rows) for edit in sorted(rows[name])]
     text = ",\n".join(lines)
-    (top / "docs" / "proofs" / "tried.json").write_text(f'{{"what": {json.dumps(TRIED)}, "tried": [\n{text}\n]}}\n')
+    (top / "crates" / "tried.json").write_text(f'{{"what": {json.dumps(TRIED)}, "tried": [\n{text}\n]}}\n')
 
 
 def judged(top, edit, row):
@@ -170,7 +269,9 @@ def judged(top, edit, row):
         return "unread", row["fault"]
     wrong, right = ({path: refusals.said_of(said) for path, said in row[key].items()} if key in row else None
                     for key in ("wrong", "right"))
-    return refusals.verdict(edit, wrong, right, lambda path: refusals.written_for(top / "crates" / edit.crate, path))
+    named = [(function, label_in_goals(top, edit.crate, function, label) or label) for function, label in edit.named]
+    return refusals.verdict(dataclasses.replace(edit, named=named), wrong, right,
+                            lambda path: refusals.written_for(top / "crates" / edit.crate, path))
 
 
 def stale(top, name):

@@ -8,21 +8,31 @@ A wrong body is a file crates/NAME/must-fail/EDIT.edit or crates/NAME/wrong-bodi
   right: TEXT                  what could stand there and keeps the promise, in the same form; behind its `new: `
   refused by: FUNCTION.LABEL   the clause that is open for this body, as in docs/proofs/; several have a space between
 
-FUNCTION is a function as docs/proofs/ names it, LABEL the label of a clause of it, or `ensures` for a clause without
-one. The condition of a call, the invariant of a type or of a loop is named by its goal, as `Desk::learn.invariant_of-self`.
-`Examples.NAME` is what stands in proofs/Examples.antt under that name. `rt` reads the first three lines alone.
+Each has the last of these lines. FUNCTION is a function as docs/proofs/ names it, LABEL the label of a clause of it, or
+`ensures` for a clause without one. A function in an impl of a trait may name a clause of the trait's function, and what the
+impl says in a `ghost` member, as `From::from_gives`. The condition of a call, the invariant of a type and what a loop keeps
+or falls by are named by their goals: `Desk::learn.invariant_of-self`, `stream_length.frames-preserved`,
+`stream_length.frames-smaller`. `Examples.NAME` is what stands in proofs/Examples.antt under that name. `rt` reads the first
+three lines alone.
 """
 import dataclasses
 import pathlib
 import re
 
-NOTE = re.compile(r"note: (?P<file>src/\S+?):\d+:\d+: it is not proved that (?P<what>.*?)(?: \(`(?P<goal>[^`]+)`\))?(?:;.*)?")
+NOTE = re.compile(r"note: src/\S+?:\d+:\d+: (?:it is not proved that (?P<what>.*?)(?: \(`(?P<goal>[^`]+)`\))?|"
+                  r"`search` found no proof \(`(?P<alone>[^`]+)`\))(?:;.*)?")
+# What stands in a verdict where no answers are written.
+LEFT = re.compile(r"`search` did not prove (`[^`]+`(?:,? (?:and )?`[^`]+`)*)")
 ERROR = re.compile(r"(?:\./)?(?P<file>\S+?):\d+:\d+: error(?:\[[\w-]+\])?: (?:`(?P<name>[^`]*)`)?(?P<said>.*)")
 VERDICT = re.compile(r"fn (?P<path>[^ ]+(?: as [^ ]+)?): (?P<said>.*)")
 # A step that an answer names isn't there; and what comes of something else that was refused.
 NAMES = re.compile(r"that can be named from here|has no field|is not in scope|has no `|\(nearest: ")
 FOLLOWS = re.compile(r"was rejected|not admitted|not checked")
 ANSWER = re.compile(r"^pub (\S+) : goal\.", re.M)
+# What a loop keeps, from its start on, and by what it ends; behind it the way through the loop.
+LOOP = re.compile(r"(\S+?-(?:init|preserved|smaller))(?:-\S+)?")
+# A goal that has to hold for the body to be one at all: what a call asks for, what a type keeps, that a number fits.
+CONDITION = re.compile(r"\S+-requires\b|invariant_of-|overflow_|\w*bounds-|div-")
 # What makes a step of a body, or a way through it: a call, and the words and signs that branch.
 STEP = re.compile(r"\b[a-z_]\w*!?(?=\()|\b(?:return|break|continue|if|match|while|for)\b|\?|&&|\|\|")
 PASSES = ("open", "answered")
@@ -72,26 +82,40 @@ def edits_of(top, name):
 
 
 def label_of(goal):
-    """The label of the clause that a goal belongs to, or the goal itself, as that of a call's condition."""
+    """The label of the clause that a goal belongs to, whatever the way to it. A loop's goal is that without the way, and
+    the condition of a call is itself. The answer to all of a goal has `-whole` behind the goal's name."""
+    goal = goal.removesuffix("-whole")
     if not goal.startswith("returns"):
-        return goal
+        loop = None if is_condition(goal) else LOOP.fullmatch(goal)
+        return loop[1] if loop else goal
     found = re.search(r"-clause-(\w+)", goal)
     return found[1] if found else "ensures"
 
 
 def is_goal(name):
     """Whether it is a goal of the checker, and no lemma beside the answers."""
-    return re.match(r"returns|\S+-requires|invariant_of", name) is not None
+    return name.startswith("returns") or is_condition(name) or LOOP.fullmatch(name) is not None
 
 
 def is_free(written, wanted):
     """Whether none of the wanted labels has a written answer."""
-    return written is not None and not written & wanted
+    return written is not None and not covered(written, wanted)
+
+
+def covered(labels, named):
+    """Those of the labels that these names are of. The name of a condition without the way to it is of each way."""
+    return {label for label in labels for name in named
+            if label == name or is_condition(name) and label.startswith(f"{name}-")}
+
+
+def missing(named, labels):
+    """Those of the names that none of the labels has."""
+    return {name for name in named if not covered(labels, {name})}
 
 
 def is_condition(label):
-    """Whether it is the condition of a call, or an invariant."""
-    return "requires" in label or label.startswith("invariant_of")
+    """Whether it is a goal without which the body is none, as the condition of a call. Clauses and loops are others."""
+    return CONDITION.match(label) is not None
 
 
 @dataclasses.dataclass
@@ -132,7 +156,7 @@ def read_told(out):
     told, unread, notes, errors = {}, [], set(), []
     for line in out.split("\n"):
         if found := NOTE.fullmatch(line):
-            notes.add(found["goal"] or found["what"])
+            notes.add(found["alone"] or found["goal"] or found["what"])
         elif found := ERROR.fullmatch(line):
             if found["file"].startswith("proofs/"):
                 errors.append((function_of(found["file"]), found["name"], found["said"]))
@@ -141,10 +165,11 @@ def read_told(out):
         elif found := VERDICT.fullmatch(line):
             # The notes on a function come right before its verdict.
             said = told.setdefault(found["path"].partition("::")[2], Said())
-            said.open |= notes
+            left = LEFT.search(found["said"])
+            said.open |= notes | set(re.findall(r"`([^`]+)`", left[1]) if left else ())
             said.rests |= "it calls `" in found["said"]
             notes = set()
-        elif line.startswith("error"):
+        elif line.startswith(("error", "rattle: error")):
             unread.append(line)
     for path, name, text in errors:
         said = told.setdefault(path, Said())
@@ -152,10 +177,12 @@ def read_told(out):
             said.fits = False
         elif name and not FOLLOWS.search(text):
             said.answers.add(name)
-    for path, name, text in errors:
+    behind = [(told[path], name, text) for path, name, text in errors if name and FOLLOWS.search(text)]
+    while found := [(said, name) for said, name, text in behind
+                    if name not in said.answers and any(f"`{one}`" in text for one in said.answers)]:
         # What rests on a lemma of the answers that was refused by its type is refused by way of it.
-        if name and FOLLOWS.search(text) and any(f"`{one}`" in text for one in told[path].answers):
-            told[path].answers.add(name)
+        for said, name in found:
+            said.answers.add(name)
     return told, unread
 
 
@@ -211,9 +238,8 @@ def verdict(edit, wrong, right, written):
         right = {}
     spared = {path: right[path].goals() if right and path in right else set() for path in wrong}
     named = {label for _, label in edit.named}
-    conditions = {label for said in wrong.values() for label in map(label_of, said.open)
-                  if is_condition(label) and label not in named}
-    if conditions:
+    conditions = {label for said in wrong.values() for label in map(label_of, said.open) if is_condition(label)}
+    if conditions := conditions - covered(conditions, named):
         return "condition", f"open besides: {', '.join(sorted(conditions))}"
     word, besides = "open", set()
     for function in dict.fromkeys(function for function, _ in edit.named):
@@ -221,13 +247,15 @@ def verdict(edit, wrong, right, written):
         said = {path: wrong[path] for path in matching(wrong, function)}
         searched = {label_of(goal) for one in said.values() for goal in one.open}
         labels = searched | {label_of(goal) for one in said.values() for goal in one.answers}
-        if wanted - labels:
-            return "another", f"{function}.{', '.join(sorted(wanted - labels))} isn't open; open are: {', '.join(every)}"
-        besides |= {label_of(goal) for one in said.values() for goal in one.goals() if is_goal(goal)} - wanted
-        if wanted <= searched and all(one.fits and not one.answers or is_free(written(path), wanted) for path, one in said.items()):
+        if missing(wanted, labels):
+            return "another", f"{function}.{', '.join(sorted(missing(wanted, labels)))} isn't open; open are: {', '.join(every)}"
+        goals = {label_of(goal) for one in said.values() for goal in one.goals() if is_goal(goal)}
+        besides |= goals - covered(goals, wanted)
+        if not missing(wanted, searched) and all(
+                one.fits and not one.answers or is_free(written(path), wanted) for path, one in said.items()):
             continue
         fresh = {label_of(goal) for path, one in said.items() for goal in one.goals() - spared[path]}
-        if right is None or wanted - fresh:
+        if right is None or missing(wanted, fresh):
             return "undecided", ("it has no right body" if right is None else "the right body is refused alike")
         word = "answered"
     return word, f"besides: {', '.join(sorted(besides))}" if besides else ""
