@@ -25,10 +25,11 @@ def found(name=None):
 
 
 def said(program, *words, output=subprocess.PIPE):
-    """What a command wrote on its two outputs; a fault where its status isn't 0."""
+    """What a command wrote on its two outputs; a fault where its status is that of one."""
     done = subprocess.run([program, *map(str, words)], stdin=subprocess.DEVNULL, stdout=output, stderr=subprocess.PIPE)
     told = done.stderr.decode(errors="replace")
-    if done.returncode > 0:
+    # By 3 `verify` says that a journal is sound, and that more than one open slot stands behind its end.
+    if done.returncode > 0 and done.returncode != 3:
         raise Fault(told.strip().replace("\n  ", ": ") or f"{program} ended with status {done.returncode}")
     if done.returncode < 0:
         raise Fault(f"{program} was ended by signal {-done.returncode}")
@@ -71,11 +72,16 @@ def verified(program, journal, tables, seal=None):
     words, named = ["verify", "--journal", journal], words_of_tables(journal, tables)
     asked = ["--seal"] if seal is None else ["--sealed", *seal]
     facts = dict(line.partition(" ")[::2] for line in said(program, *words, *asked, *named)[0].splitlines())
-    numbers = {name: int(facts[name]) for name in ("version", "capacity", "cards", "touches")}
+    numbers = {name: int(facts.get(name, 0)) for name in ("version", "capacity", "cards", "touches", "behind")}
     # One run gives no more than one seal. The new one is worked out here, as any program can.
     size = SLOTS[b"OYSTERJ%d" % numbers["version"]]
     new = sealed(journal, HEADER + size * numbers["touches"]) if seal else facts["sealed"].split()[1]
     return {**numbers, "digest": facts["digest"], "seal": new}
+
+
+def open_behind(facts):
+    """What is said of a journal where more than one open slot stands behind its end."""
+    return f"{facts['behind']} open slots behind the end"
 
 
 def sealed(journal, size):
@@ -95,6 +101,8 @@ def audited(program, journal, tables, seal=None):
     """What an audit finds of a journal: what it holds, its seal and its sums, or the fault. It raises nothing."""
     try:
         facts = verified(program, journal, tables, seal)
+        if facts["behind"] > 1:
+            return {"fault": open_behind(facts)}
         return {**facts, "sums": balanced(program, journal, tables, facts["touches"])}
     except Fault as fault:
         return {"fault": str(fault)}

@@ -1,5 +1,5 @@
 """What a built program is made of, and whether it is built of the code as it stands, for scripts/bovtrila and
-scripts/timed-ci."""
+scripts/dev/timed-ci."""
 import hashlib
 import os
 import pathlib

@@ -1,4 +1,4 @@
-/* A gate that is told on standard input what to ask, for scripts/gate-library. It knows the library by its header
+/* A gate that is told on standard input what to ask, for scripts/tests/gate-library. It knows the library by its header
    alone.
 
        asker create FILE GATE CAPACITY

@@ -1,4 +1,4 @@
-/* Stands before the C library (LD_PRELOAD), for scripts/gate-library: it notes the calls of the system that the library
+/* Stands before the C library (LD_PRELOAD), for scripts/tests/gate-library: it notes the calls of the system that the library
    for gates makes, refuses one, makes them fall short, or cuts the power in the middle of a write.
 
    CALLS_LOG=FD          a line for each call goes there

@@ -1,4 +1,4 @@
-/* What the library makes of frames, for scripts/gate-library: its own functions, since a gate numbers its touches
+/* What the library makes of frames, for scripts/tests/gate-library: its own functions, since a gate numbers its touches
    itself.
 
    "frame GATE KIND NUMBER CARD STATION PENCE MOMENT DAY DIGEST" prints the touch's frame, and what is read from it

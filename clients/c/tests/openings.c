@@ -1,4 +1,4 @@
-/* Opens a gate's file with each of its bytes changed to each other value, for scripts/gate-library.
+/* Opens a gate's file with each of its bytes changed to each other value, for scripts/tests/gate-library.
 
        openings FILE GATE COPY
 

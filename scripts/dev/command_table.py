@@ -1,0 +1,111 @@
+"""The program's command line, read from the tables of crates/command_line: each command, with what stands behind it.
+
+scripts/dev/completion makes completion for shells of it, and scripts/dev/man-pages what manual pages say of options.
+"""
+import collections
+import pathlib
+import re
+
+SOURCE = pathlib.Path(__file__).resolve().parents[2] / "crates" / "command_line" / "src"
+
+# A command: its name, what it does, how it is called and how it ends, and its parameters in the order of the help.
+Command = collections.namedtuple("Command", "name about example parameters")
+# A parameter: its name, the names of its values (none: it is a flag), the words that the value may be (none: any), what
+# it is for, whether it has to be there, the one that it may not stand beside, and whether it is the last words.
+Parameter = collections.namedtuple("Parameter", "name values words help is_required conflict is_last")
+
+TOKEN = re.compile(r'\s+|//[^\n]*|"(?P<text>(?:[^"\\]|\\.)*)"|(?P<word>[\w:]*\w)|(?P<mark>.)', re.S)
+CONST = re.compile(r"^(?:pub(?:\(\w+\))? )?const (?P<name>\w+): [^=]*=", re.M)
+
+
+class Value:
+    """What reads the value of a constant: a text, a list, a name with what stands in brackets or braces behind it."""
+
+    def __init__(self, source):
+        self.tokens = [match for match in TOKEN.finditer(source) if match.lastgroup]
+        self.at = 0
+
+    def next(self, mark=None):
+        """The next token; where a mark is named, whether that is the next one, which is passed over then."""
+        token = self.tokens[self.at]
+        if mark is None or token[0] == mark:
+            self.at += 1
+            return token
+        return None
+
+    def until(self, end, read):
+        """What is read up to a mark, with commas between."""
+        found = []
+        while not self.next(end):
+            found.append(read())
+            self.next(",")
+        return found
+
+    def read(self):
+        while self.next("&"):
+            pass
+        if self.next("["):
+            return self.until("]", self.read)
+        token = self.next()
+        if token["text"] is not None:
+            return re.sub(r"\\(.)", r"\1", token["text"], flags=re.S)
+        name = token["word"]
+        if self.next("("):
+            return name, self.until(")", self.read)
+        if self.next("{"):
+            return dict(self.until("}", self.field))
+        return name, None
+
+    def field(self):
+        name = self.next()["word"]
+        self.next(":")
+        return name, self.read()
+
+
+def constants(file):
+    """The constants of a file that are texts, lists or structs."""
+    text = file.read_text()
+    return {match["name"]: Value(text[match.end():]).read() for match in CONST.finditer(text)}
+
+
+def resolved(known, value):
+    """A value in which a constant's name has its value's place."""
+    while isinstance(value, tuple) and value[0] in known:
+        value = known[value[0]]
+    return value
+
+
+def parameter(known, described):
+    """The parameter that is described so."""
+    read = {key: resolved(known, value) for key, value in described.items()}
+    (takes, given), (rule, other) = read["takes"], read["rule"]
+    given = [resolved(known, value) for value in given or ()]
+    values = {"Flag": lambda: (), "Text": lambda: given[:1], "Number": lambda: given[:1], "Word": lambda: given[:1],
+              "Pair": lambda: given[0], "Three": lambda: given[0],
+              "Revisions": lambda: ("REVISION",)}[takes.removeprefix("Takes::")]()
+    words = tuple(given[1]) if takes == "Takes::Word" else ()
+    return Parameter(read["name"], tuple(values), words, read["help"].replace("\n", " "), rule == "Rule::Required",
+                     other[0] if rule == "Rule::Without" else None, takes == "Takes::Revisions")
+
+
+def commands(source=SOURCE):
+    """The commands, in the order of the help."""
+    found = {}
+    for file in (source / "commands").glob("*.rt"):
+        known = {**constants(source / "history.rt"), **constants(source / "arguments.rt"), **constants(file)}
+        for name, value in known.items():
+            if isinstance(value, dict) and "parameters" in value:
+                read = {key: resolved(known, one) for key, one in value.items()}
+                listed = tuple(parameter(known, resolved(known, one)) for one in read["parameters"])
+                found[name] = Command(read["name"], read["about"], read["example"], listed)
+    return [found[name] for name, _ in constants(source / "commands.rt")["COMMANDS"]]
+
+
+def version(source=SOURCE):
+    """The program's version."""
+    return constants(source / "commands.rt")["VERSION"].split("\n")[0]
+
+
+def about(source=SOURCE):
+    """What the program does."""
+    return constants(source / "commands.rt")["ABOUT"]

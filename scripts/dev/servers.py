@@ -1,0 +1,117 @@
+"""The two servers that are measured, and the gates that ask them: for scripts/dev/measure-serve."""
+import os
+import pathlib
+import shutil
+import signal
+import socket
+import subprocess
+import sys
+import tempfile
+import time
+
+from harness import EXAMPLE, PROGRAM, TOP, first_line
+
+# The cards and the capacity of a server under load, and how many requests a load makes at most.
+CARDS, CAPACITY, MOST = 1000, 400_000, {"touch": 300_000, "enquiry": 4_000_000}
+# How many seconds a server may take to open or to end, and a load beyond its own seconds.
+PATIENCE = 120
+
+
+class Bench:
+    """The built programs of bench/ in a folder that goes with it, and how programs are started."""
+
+    def __init__(self, options):
+        self.rounds, self.seconds = options.rounds, options.seconds
+        self.before = ["chrt", "-r", "5"] if options.realtime else []
+        if options.same:
+            self.bovtrila = self.bare
+        self.holder = tempfile.TemporaryDirectory(prefix="measure-serve-", dir=options.folder)
+        self.folder = pathlib.Path(self.holder.name)
+        compiler = next((name for name in ("cc", "gcc", "clang") if shutil.which(name)), None)
+        if compiler is None:
+            sys.exit("measure-serve: bench/ needs a C compiler (on Debian: apt-get install gcc libc6-dev)")
+        for name in ("bare_server", "load"):
+            source = TOP / "bench" / f"{name}.c"
+            subprocess.run([compiler, "-O2", "-pthread", "-o", self.folder / name, source], check=True)
+
+    def bovtrila(self, connections, cards=CARDS, capacity=CAPACITY, journal=None, before=(), revised=()):
+        """Starts Bovtrila's server for so many connections, on a new journal where none is given, with further tables."""
+        if journal is None:
+            journal = self.folder / "journal"
+            journal.unlink(missing_ok=True)
+        words = ["serve", "--table", EXAMPLE, "--journal", journal, "--cards", cards, "--capacity", capacity,
+                 "--listen", "127.0.0.1:0", "--lines", connections, "--connections", 2, *revised]
+        return Server([*self.before, *before, PROGRAM, *words])
+
+    def bare(self, connections, before=()):
+        """Starts the bare server for so many connections."""
+        return Server([*self.before, *before, self.folder / "bare_server", self.folder / "bare", connections, 2])
+
+    def load(self, server, kind, connections, first=1, seconds=None, most=None):
+        """Starts gates that ask a server, of numbers from the first on."""
+        words = [*self.before, self.folder / "load", server.address[1], kind, connections, most or MOST[kind],
+                 seconds or self.seconds, first]
+        return subprocess.Popen([str(word) for word in words], stdout=subprocess.PIPE, text=True)
+
+
+class Server:
+    """A running server. Each of its lines has a connection to spare, so that it is there until it is let go."""
+
+    def __init__(self, words):
+        start = time.monotonic()
+        # A group of its own, so that what strace started ends with it.
+        self.process = subprocess.Popen([str(word) for word in words], stdin=subprocess.DEVNULL, stdout=subprocess.PIPE,
+                                        stderr=subprocess.PIPE, text=True, start_new_session=True)
+        said = first_line(self.process.stderr)
+        self.opening = time.monotonic() - start
+        if not said.startswith("listening "):
+            self.kill()
+            sys.exit(f"measure-serve: {' '.join(map(str, words))} said {said!r}")
+        host, _, port = said.split()[1].rpartition(":")
+        self.address = host, int(port)
+
+    def __enter__(self):
+        return self
+
+    def __exit__(self, *_):
+        self.kill()
+
+    def spent(self):
+        """The seconds of processor time so far."""
+        fields = pathlib.Path(f"/proc/{self.process.pid}/stat").read_text().rpartition(")")[2].split()
+        return (int(fields[11]) + int(fields[12])) / os.sysconf("SC_CLK_TCK")
+
+    def resident(self):
+        """The bytes of memory that it holds now."""
+        return int(pathlib.Path(f"/proc/{self.process.pid}/statm").read_text().split()[1]) * os.sysconf("SC_PAGE_SIZE")
+
+    def let_go(self):
+        """Uses the spare connections up, each by a byte of a request, and gives what the server printed."""
+        limit = time.monotonic() + PATIENCE
+        while self.process.poll() is None and time.monotonic() < limit:
+            try:
+                with socket.create_connection(self.address, PATIENCE) as gate:
+                    gate.sendall(b"\0")
+            except OSError:
+                # It listens no more.
+                pass
+            time.sleep(0.001)
+        out, err = self.process.communicate(timeout=PATIENCE)
+        if self.process.returncode != 0:
+            sys.exit(f"measure-serve: a server ended with status {self.process.returncode}: {err}")
+        return out.splitlines()
+
+    def kill(self):
+        if self.process.poll() is None:
+            os.killpg(self.process.pid, signal.SIGKILL)
+        self.process.communicate()
+
+
+class Figures:
+    """What a load was answered: how many requests, the rate, and the times of an answer in microseconds."""
+
+    def __init__(self, load):
+        out, _ = load.communicate(timeout=PATIENCE)
+        if load.returncode != 0:
+            sys.exit("measure-serve: a load had no right answer")
+        self.requests, self.seconds, self.rate, self.median, self.high = map(float, out.split())

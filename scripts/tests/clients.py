@@ -1,0 +1,442 @@
+"""What scripts/tests/gate-library needs: the built programs of clients/c, a gate that is told what to ask, and readers of a
+gate's file and of its calls, written from docs/GATE_LIBRARY.md and docs/JOURNAL.md."""
+import contextlib
+import functools
+import importlib.machinery
+import importlib.util
+import os
+import pathlib
+import re
+import shutil
+import socket
+import struct
+import subprocess
+import tempfile
+import threading
+import time
+import unittest
+
+import harness
+import model
+import wire
+from harness import EXAMPLE, PROGRAM, TIME, TOP
+
+CLIENT = TOP / "clients" / "c"
+TESTS = CLIENT / "tests"
+HEADER = CLIENT / "bovtrila_gate.h"
+SOURCE = CLIENT / "bovtrila_gate.c"
+WARNINGS = ["-std=c99", "-Wall", "-Wextra", "-Wpedantic", "-Werror"]
+# A folder in memory, where there is one: each touch syncs the gate's file twice.
+FAST = "/dev/shm" if os.access("/dev/shm", os.W_OK) else None
+# Times of a gate in milliseconds: of a call, of an answer, of the first and of the longest wait before a repeat.
+PATIENT, QUICK = (20_000, 2_000, 1, 4), (20_000, 150, 1, 4)
+
+
+def there(*names):
+    """Whether these programs are on the machine."""
+    return all(shutil.which(name) for name in names)
+
+
+def loaded(name):
+    """The module of a script."""
+    loader = importlib.machinery.SourceFileLoader(name.replace("-", "_"), str(TOP / "scripts" / "tests" / name))
+    module = importlib.util.module_from_spec(importlib.util.spec_from_loader(loader.name, loader))
+    loader.exec_module(module)
+    return module
+
+
+makers = loaded("gate-makers")
+FIRST = [bytes.fromhex(asked) for asked, _ in harness.vectors()["first example"]]
+# Where programs are built for all tests.
+BUILT = tempfile.TemporaryDirectory(prefix="gate-library-")
+
+
+def numbers_of(kind, prefix=""):
+    """The numbers that the header gives to the names of an enum, without their prefix."""
+    block = re.search(rf"enum bovtrila_{kind} {{(.*?)\n}};", HEADER.read_text(), re.S)[1]
+    found = re.findall(rf"\bBOVTRILA_{prefix}([A-Z_]+) = (\d+)", block)
+    return {name: int(number) for name, number in found}
+
+
+RESULT, CAUSE = numbers_of("result"), numbers_of("file_cause", "FILE_")
+REPLIES = RESULT["ACCEPTED"], RESULT["REFUSED"]
+WAITS = RESULT["NO_ANSWER"], RESULT["FAULT"], RESULT["STRAY"]
+
+
+def built(to, sources, compiler="gcc", flags=("-O2",), include=CLIENT):
+    """Builds a program of these sources, with the header's folder."""
+    words = [compiler, *WARNINGS, *flags, "-I", include, "-o", to, *sources]
+    done = subprocess.run(words, capture_output=True, text=True)
+    if done.returncode != 0:
+        raise AssertionError(f"{compiler} says of {to}:\n{done.stderr}")
+    return to
+
+
+def calls_library(to):
+    """Builds the library that stands before the C library's calls."""
+    words = ["gcc", "-Wall", "-Wextra", "-Werror", "-O1", "-shared", "-fPIC", "-o", to, TESTS / "calls.c", "-ldl"]
+    subprocess.run(words, check=True)
+    return to
+
+
+class Gone(Exception):
+    """The asker has ended, or the gate has to be opened again."""
+
+
+class Asker:
+    """A running gate. `opened` is what its opening came to."""
+
+    def __init__(self, program, file, gate, addresses, times=PATIENT, run=(), **options):
+        words = [*run, program, "open", file, gate, ",".join(addresses), *times]
+        self.process = subprocess.Popen([str(word) for word in words], stdin=subprocess.PIPE, stdout=subprocess.PIPE,
+                                        text=True, bufsize=1, **options)
+        self.opened = self.line()
+
+    def __enter__(self):
+        return self
+
+    def __exit__(self, *_):
+        self.end()
+
+    def line(self):
+        """The numbers of the next line, or no numbers where it has none."""
+        text = self.process.stdout.readline()
+        if not text.endswith("\n"):
+            raise Gone(f"the gate ended by status {self.process.wait(TIME)}")
+        return [] if text == "none\n" else [int(word) if len(word) < 30 else word for word in text.split()]
+
+    def write(self, text):
+        try:
+            self.process.stdin.write(text + "\n")
+        except OSError:
+            raise Gone("the gate takes no line") from None
+
+    def ask(self, text):
+        self.write(text)
+        return self.line()
+
+    def kill(self):
+        self.process.kill()
+        self.end()
+
+    def end(self):
+        """Its status, once it has ended."""
+        with contextlib.suppress(OSError):
+            self.process.stdin.close()
+        if not self.process.stdout.closed:
+            self.process.stdout.read()
+            self.process.stdout.close()
+        return self.process.wait(TIME)
+
+
+def create(program, file, gate, capacity, **options):
+    """Makes a gate's file: the numbers that were told."""
+    words = [str(word) for word in (program, "create", file, gate, capacity)]
+    done = subprocess.run(words, capture_output=True, text=True, timeout=TIME, **options)
+    return [int(word) for word in done.stdout.split()] or [None, 0, done.returncode]
+
+
+def act_of(frame):
+    """The line that asks for the touch of a frame, or for an enquiry."""
+    kind, *values = struct.unpack(model.FORMS[frame[2]], frame[2:])
+    if kind == model.ENQUIRE:
+        return f"enquire {values[0]}"
+    card, *more = values[2:]
+    if kind == model.REVISE:
+        return f"revise {more[0].hex()} {more[1]} {more[2]}"
+    word = {model.ENTER: "in", model.LEAVE: "out", model.TOP_UP: "top-up", model.ISSUE: "issue"}[kind]
+    return " ".join(map(str, (word, card, *more)))
+
+
+def told_by(answer, number):
+    """What the gate says of an answer's frame to its touch of this number, or to an enquiry."""
+    if answer[2] == model.HOLDING:
+        state, balance, front = struct.unpack(">BqI", answer[3:])
+        return [RESULT["SHOWN"], state, 0, balance, front]
+    if answer[2] == model.FAULT:
+        return [RESULT["FAULT"], number, 0, answer[3], 0, 0]
+    verdict, change, balance = struct.unpack(">Biq", answer[9:])
+    return [REPLIES[verdict >= 20], number, verdict, 0, change, balance]
+
+
+def worked_out(frames):
+    """What a gate is told of these touches, the first ones of the example's server, by the model."""
+    station = wire.vectors()[0].model()
+    return [told_by(station.answer(frame), number) for number, frame in enumerate(frames, 1)]
+
+
+class Careful:
+    """A gate's program that does what the header says: it goes by replies alone, and settles what waits first. It asks
+    for the touches of these frames, in their order."""
+
+    def __init__(self, frames):
+        self.frames, self.replies, self.opens = frames, {}, []
+
+    def note(self, told):
+        """Keeps a reply. One that was told before has to be the same."""
+        first = self.replies.setdefault(told[1], told)
+        assert first == told, f"touch {told[1]} was answered by {first}, and then by {told}"
+        is_travel = self.frames[told[1] - 1][2] in (model.ENTER, model.LEAVE)
+        if first is told and is_travel and told[0] == RESULT["ACCEPTED"]:
+            self.opens.append(told[1])
+
+    def settle(self, asker, told):
+        """Sends what waits again, until there is a reply. A server that is gone doesn't hold it up for good."""
+        until = time.monotonic() + TIME
+        while told[0] in WAITS:
+            if time.monotonic() > until:
+                raise Gone(f"no reply within {TIME} seconds, and the gate says {told}")
+            told = asker.ask("resend")
+        if told[0] not in REPLIES:
+            raise Gone(f"the gate says {told}")
+        self.note(told)
+
+    def begin(self, asker):
+        """Settles what waits after an opening: how many touches were asked."""
+        assert asker.opened == [CAUSE["OK"], 0, 0], asker.opened
+        waiting = asker.ask("waiting")
+        if not waiting:
+            return 0
+        self.settle(asker, asker.ask("resend"))
+        return waiting[1]
+
+    def run(self, asker, ask=None):
+        """Asks what is left."""
+        for place in range(self.begin(asker), len(self.frames)):
+            told = (ask or Asker.ask)(asker, act_of(self.frames[place]))
+            assert told[1] in (place + 1, 0), f"touch {place + 1} was asked under number {told[1]}"
+            self.settle(asker, told)
+
+    def told(self):
+        """What was told of each touch, in their order."""
+        return [self.replies.get(number) for number in range(1, len(self.frames) + 1)]
+
+
+def tag(gate):
+    """What stands in a gate's file where a station's journal has a digest (docs/GATE_LIBRARY.md)."""
+    return b"Bovtrila: the touches of gate " + struct.pack(">H", gate)
+
+
+def file_of(frames, capacity, gate):
+    """The bytes of a gate's file with the touches of these frames."""
+    content = model.journal_of(frames, capacity, 1, tag(gate))
+    return content if len(frames) < capacity else content[:-1]
+
+
+def reading(content, gate):
+    """What opening a file comes to: the cause, the place, and the touches' frames (docs/GATE_LIBRARY.md)."""
+    if len(content) < 65 or content[0] != 0xA5 or content[1:8] != b"OYSTERJ":
+        return CAUSE["NOT_A_JOURNAL"], 0, []
+    if content[8:9] != b"2":
+        return CAUSE["OTHER_VERSION"], 0, []
+    capacity, cards = struct.unpack(">II", content[9:17])
+    if not 1 <= capacity <= 1_000_000 or not 1 <= cards <= 100_000:
+        return CAUSE["BAD_LIMIT"], 0, []
+    if cards != 1 or content[17:49] != tag(gate):
+        return CAUSE["ANOTHER"], 0, []
+    touches = []
+    while len(touches) < capacity:
+        slot = content[64 + 64 * len(touches):][:64]
+        if slot and slot[0] != 0xA5:
+            break
+        if len(slot) < 64 or slot[1] not in (1, 2, 3, 4, 6):
+            return CAUSE["DAMAGED"], len(touches), []
+        size = struct.calcsize(model.FORMS[slot[1]])
+        touches.append(struct.pack(">H", size) + slot[1:1 + size])
+    for place, frame in enumerate(touches):
+        if frame[3:9] != struct.pack(">HI", gate, place + 1):
+            return CAUSE["FOREIGN"], place, []
+    return CAUSE["OK"], 0, touches
+
+
+class Log:
+    """The calls that a gate makes, by the library that stands before them."""
+
+    def __init__(self, library, **more):
+        self.library, self.more = library, more
+        self.file = tempfile.TemporaryFile("w+")
+
+    def options(self):
+        number = self.file.fileno()
+        settings = {f"CALLS_{name}": str(value) for name, value in self.more.items()}
+        return {"env": dict(os.environ, LD_PRELOAD=str(self.library), CALLS_LOG=str(number), **settings),
+                "pass_fds": [number]}
+
+    def lines(self):
+        self.file.seek(0)
+        return [line.rstrip("\n").split(" ", 3) for line in self.file]
+
+    def calls(self):
+        """Each call's name, place and bytes."""
+        return [(name, int(at), bytes.fromhex(digits)) for name, _, at, digits in self.lines()]
+
+    def numbers(self, wanted):
+        """Which calls of their process those of a name are, from 1 on."""
+        return [int(number) for name, number, _, _ in self.lines() if name == wanted]
+
+
+def written(content, at, data):
+    """The content with these bytes at a place."""
+    return content.ljust(at, b"\0")[:at] + data + content[at + len(data):]
+
+
+class Disk:
+    """A file by the calls on it: what is durable, and the writes since."""
+
+    def __init__(self):
+        self.durable, self.pending = b"", []
+
+    def call(self, name, at, data):
+        if name == "pwrite":
+            self.pending.append((at, data))
+        elif name in ("fdatasync", "fsync"):
+            self.durable, self.pending = self.content(), []
+
+    def content(self):
+        content = self.durable
+        for at, data in self.pending:
+            content = written(content, at, data)
+        return content
+
+    def images(self, draw):
+        """Some of the contents that a loss of power may leave now."""
+        yield self.durable
+        yield self.content()
+        for fill in (b"\x00", b"\xa5", b"\x04", b"\xff", None):
+            content = self.durable
+            for at, data in self.pending:
+                torn = draw.randbytes(len(data)) if fill is None else fill * len(data)
+                content = written(content, at, torn)
+            yield content
+            yield content[:draw.randint(min(len(self.durable), len(content)), len(content))]
+        for _ in range(6):
+            # The first bytes of the last write, and any behind them.
+            content = self.durable
+            for at, data in self.pending:
+                cut = draw.randint(0, len(data))
+                content = written(content, at, data[:cut] + draw.randbytes(len(data) - cut))
+            yield content
+
+
+def wait_for(holds, seconds=10):
+    """Waits until it holds: whether it does."""
+    limit = time.monotonic() + seconds
+    while time.monotonic() < limit:
+        if holds():
+            return True
+        time.sleep(0.01)
+    return holds()
+
+
+def address_text(address):
+    host, port = address[:2]
+    return f"{host}:{port}"
+
+
+def needs(*names):
+    """Skips a test for which these programs have to be there."""
+    lacking = [name for name in names if not there(name)]
+    return unittest.skipIf(lacking, f"{', '.join(lacking)}: not installed (packaging/debian-packages)")
+
+
+@functools.cache
+def program(name):
+    """A program of the tests, built once: the asker, or the library that stands before the calls of the system."""
+    if not there("gcc"):
+        raise unittest.SkipTest("gcc: not installed (packaging/debian-packages)")
+    to = pathlib.Path(BUILT.name) / name
+    return calls_library(to) if name == "calls" else built(to, [TESTS / "asker.c", SOURCE])
+
+
+class GateTest(unittest.TestCase):
+    """Each test has a folder of its own in memory, and what it starts is ended with it."""
+
+    def setUp(self):
+        folder = tempfile.TemporaryDirectory(dir=FAST)
+        self.addCleanup(folder.cleanup)
+        self.folder, self.asker = pathlib.Path(folder.name), program("asker")
+        self.file = self.folder / "7"
+
+    def start(self, *words):
+        running = makers.Running(*words)
+        self.addCleanup(running.kill)
+        return running
+
+    def serve(self, cards=10, capacity=1000, lines=4, name="journal"):
+        """A real server."""
+        if not PROGRAM.is_file():
+            raise FileNotFoundError(f"{PROGRAM} isn't there: run scripts/bovtrila, or 'rt ci'")
+        return self.start(PROGRAM, "serve", "--table", EXAMPLE, "--journal", self.folder / name, "--cards",
+                          cards, "--capacity", capacity, "--listen", "127.0.0.1:0", "--lines", lines, "--connections",
+                          1_000_000)
+
+    def recorded(self, cards=10, name="journal"):
+        """The touches of the real server's journal."""
+        table = model.Table(EXAMPLE.read_text())
+        return model.journal((self.folder / name).read_bytes(), table, cards)[0]
+
+    def planted(self):
+        """A server over the model. It listens to the test's end: a thread that was about to accept would take the next
+        server's connections by a descriptor that was given anew."""
+        server = makers.Planted()
+        self.addCleanup(server.listening.close)
+        return server
+
+    def create(self, gate=7, capacity=1000, **options):
+        return create(self.asker, self.file, gate, capacity, **options)
+
+    def open(self, addresses, gate=7, times=PATIENT, **options):
+        """A gate that is open, or what its opening came to."""
+        addresses = [addresses] if isinstance(addresses, str) else addresses
+        asker = Asker(self.asker, self.file, gate, addresses, times, **options)
+        self.addCleanup(asker.kill)
+        return asker
+
+    def write(self, content):
+        self.file.write_bytes(content)
+
+
+def replied_to(frame):
+    """A reply to a touch."""
+    return model.framed(">BHIBiq", model.REPLY, *struct.unpack(">HI", frame[3:9]), 8, 0, 0)
+
+
+class Told:
+    """A server that gives the answers of a list, one for each request, and keeps what it was asked."""
+
+    def __init__(self, test, answers=(), host="127.0.0.1"):
+        self.answers, self.asked = list(answers), []
+        self.listening, self.text = wire.listener((host, 0))
+        test.addCleanup(self.listening.close)
+        threading.Thread(target=self.take, daemon=True).start()
+
+    def take(self):
+        while True:
+            try:
+                connection, _ = self.listening.accept()
+            except OSError:
+                return
+            threading.Thread(target=self.serve, args=(connection,), daemon=True).start()
+
+    def serve(self, connection):
+        with connection:
+            while len(head := connection.recv(2, socket.MSG_WAITALL)) == 2:
+                self.asked.append(head + connection.recv(wire.number_at(head, 0, 2), socket.MSG_WAITALL))
+                connection.sendall(self.answers.pop(0))
+
+
+def journey(gate, cards):
+    """Touches of a gate's cards, numbered from 1 on."""
+    return makers.touches_of(gate, cards)
+
+
+@contextlib.contextmanager
+def of(owner, program):
+    """A test of a class that asks with another program."""
+    case = owner()
+    case.setUp()
+    case.asker = program
+    try:
+        yield case
+    finally:
+        case.doCleanups()

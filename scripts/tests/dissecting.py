@@ -1,0 +1,228 @@
+"""The tests of clients/wireshark/bovtrila.lua, for scripts/tests/gate-library: tshark on a capture that is made here."""
+import os
+import pathlib
+import re
+import signal
+import socket
+import struct
+import subprocess
+import tempfile
+import time
+import unittest
+import xml.etree.ElementTree as ElementTree
+
+import clients
+import model
+import wire
+from harness import TIME, TOP
+
+SCRIPT = TOP / "clients" / "wireshark" / "bovtrila.lua"
+PAGE = TOP / "docs" / "PROTOCOL.md"
+# The fields of each kind behind its length, in the order of the page's table, with the bytes of each.
+FORMS = {
+    0x01: "gate number card station moment", 0x02: "gate number card station moment",
+    0x03: "gate number card pence moment", 0x04: "gate number card moment", 0x05: "card",
+    0x06: "gate number card digest day moment",
+    0x81: "gate number verdict change balance", 0x85: "state balance front", 0xFF: "fault gate number",
+}
+ANSWERS = {0x81: ">HIBiq", 0x85: ">BqI", 0xFF: ">BHI"}
+STATES = {0: "vacant", 1: "outside", 2: "inside"}
+
+
+def words_of(section):
+    """The names that a table of the page gives to its codes."""
+    text = PAGE.read_text().partition(f"\n## {section}\n")[2].partition("\n## ")[0]
+    return {int(code): name for code, name in re.findall(r"(?m)^\| (\d+) \| (\w+) \|", text)}
+
+
+def shown(name, value):
+    """How a field of this value is shown."""
+    if name == "digest":
+        return ":".join(f"{byte:02x}" for byte in value)
+    if name == "moment":
+        return time.strftime("%Y-%m-%d %H:%M:%S", time.gmtime(value))
+    return str(value)
+
+
+def fields_of(frame):
+    """The fields that a frame has to be shown with."""
+    kind = frame[2]
+    values = struct.unpack(ANSWERS.get(kind) or model.FORMS[kind].replace("B", "", 1), frame[3:])
+    found = [("length", str(len(frame) - 2)), ("kind", f"0x{kind:02x}")]
+    return found + [(name, shown(name, value)) for name, value in zip(FORMS[kind].split(), values, strict=True)]
+
+
+class Line:
+    """Both ends of a connection over the loopback."""
+
+    def __init__(self, listening):
+        self.gate = socket.create_connection(listening.getsockname())
+        self.server = listening.accept()[0]
+        for end in (self.gate, self.server):
+            end.setsockopt(socket.IPPROTO_TCP, socket.TCP_NODELAY, 1)
+
+    def end(self):
+        self.gate.close()
+        self.server.close()
+
+    @staticmethod
+    def move(sender, receiver, data, size=None):
+        """Passes bytes from one end to the other, in pieces of a size."""
+        size = size or len(data)
+        for place in range(0, len(data), size):
+            sender.sendall(data[place:place + size])
+            left = len(data[place:place + size])
+            while left:
+                left -= len(receiver.recv(left))
+
+
+@unittest.skipUnless(clients.there("tshark"), "tshark: not installed (packaging/debian-packages)")
+class Dissector(unittest.TestCase):
+    """What is shown of every vector, sent whole, many at once, and in pieces of a byte."""
+
+    vectors = [(vector.request, vector.answer) for station in wire.vectors() for vector in station.vectors]
+    first = vectors[:4]
+
+    @classmethod
+    def setUpClass(cls):
+        folder = tempfile.TemporaryDirectory()
+        cls.addClassCleanup(folder.cleanup)
+        cls.file = pathlib.Path(folder.name) / "capture.pcapng"
+        with socket.create_server(("127.0.0.1", 0)) as listening:
+            cls.port = listening.getsockname()[1]
+            # On a busy machine a capture begins and ends late, and then it lacks packets.
+            for pause in (1, 3, 10):
+                cls.file.unlink(missing_ok=True)
+                cls.capture(lambda: cls.send_all(listening), pause)
+                cls.packets = cls.dissected()
+                if len(cls.packets) == len(cls.expected(cls)):
+                    break
+
+    @classmethod
+    def capture(cls, send, pause):
+        """Captures what passes while something is sent, and for a pause before and behind it."""
+        words = ["tshark", "-q", "-i", "lo", "-f", f"tcp port {cls.port}", "-w", str(cls.file)]
+        with tempfile.TemporaryFile("w+") as said:
+            running = subprocess.Popen(words, stdin=subprocess.DEVNULL, stderr=said, env=dict(os.environ, LANG="C"))
+            cls.addClassCleanup(running.kill)
+            clients.wait_for(lambda: running.poll() is not None or cls.file.exists())
+            if running.poll() is not None:
+                said.seek(0)
+                raise unittest.SkipTest(f"capturing on the loopback: {said.read().strip().splitlines()[-1:]}")
+            time.sleep(pause)
+            send()
+            time.sleep(pause)
+            running.send_signal(signal.SIGINT)
+            running.wait(TIME)
+
+    @classmethod
+    def send_all(cls, listening):
+        """The vectors, one by one; then the first example at once, and in pieces of a byte."""
+        line = Line(listening)
+        for request, answer in cls.vectors:
+            line.move(line.gate, line.server, request)
+            line.move(line.server, line.gate, answer)
+            if wire.is_fault(answer, model.BAD_FRAME):
+                line.end()
+                line = Line(listening)
+        line.end()
+        for size in (None, 1):
+            line = Line(listening)
+            line.move(line.gate, line.server, b"".join(request for request, _ in cls.first), size)
+            line.move(line.server, line.gate, b"".join(answer for _, answer in cls.first), size)
+            line.end()
+
+    @classmethod
+    def dissected(cls):
+        """Each part of the protocol that is shown, in order: its packet's number, time and length, its fields and
+        notes."""
+        words = ["tshark", "-2", "-X", f"lua_script:{SCRIPT}", "-r", str(cls.file), "-T", "pdml",
+                 "-d", f"tcp.port=={cls.port},bovtrila"]
+        done = subprocess.run(words, capture_output=True, text=True, timeout=TIME * 2, env=dict(os.environ, TZ="UTC"))
+        wrong = [line for line in (done.stderr + done.stdout).split("\n") if re.search("Lua:? Error", line)]
+        assert not wrong, wrong[:2]
+        if done.returncode != 0:
+            return []
+        found = []
+        for packet in ElementTree.fromstring(done.stdout).iter("packet"):
+            values = {field.get("name"): field.get("show") for field in packet.iter("field")}
+            for part in packet.iter("proto"):
+                if part.get("name") == "bovtrila":
+                    fields = [(field.get("name").removeprefix("bovtrila."), field.get("show"), field.get("showname"))
+                              for field in part.iter("field") if field.get("name").startswith("bovtrila.")]
+                    found.append((int(values["frame.number"]), float(values["frame.time_epoch"]), fields))
+        return found
+
+    def expected(self):
+        """What has to be shown of each vector and then of the first example, twice: requests and answers in order."""
+        singly = [frame for pair in self.vectors for frame in pair]
+        at_once = [request for request, _ in self.first] + [answer for _, answer in self.first]
+        return singly + 2 * at_once
+
+    GENERATED = ("accepted", "response_in", "response_to", "response_time", "repeat_of", "bad_frame", "is_repeat",
+                 "is_other", "is_fault")
+
+    def test_each_field_is_shown_by_its_name(self):
+        expected = self.expected()
+        self.assertEqual(len(self.packets), len(expected))
+        for (number, _, fields), frame in zip(self.packets, expected):
+            with self.subTest(packet=number, frame=frame.hex()):
+                got = [(name, show) for name, show, _ in fields if name not in self.GENERATED]
+                got = [(name, re.sub(r'"|\.0+\b| UTC', "", show) if name == "moment" else show) for name, show in got]
+                got = [(name, self.as_day(show) if name == "moment" else show) for name, show in got]
+                is_whole = len(frame) > 2 and frame[2] in FORMS and wire.number_at(frame, 0, 2) == len(frame) - 2 and (
+                    wire.is_request(frame) or frame[2] in ANSWERS)
+                wanted = fields_of(frame) if is_whole else [("bad", ":".join(f"{byte:02x}" for byte in frame))]
+                self.assertEqual(got, wanted)
+
+    @staticmethod
+    def as_day(text):
+        """A moment as tshark writes it, in the form of `shown`."""
+        for form in ("%b %d, %Y %H:%M:%S", "%Y-%m-%d %H:%M:%S", "%Y-%m-%dT%H:%M:%S"):
+            try:
+                return time.strftime("%Y-%m-%d %H:%M:%S", time.strptime(re.sub(r"\s+", " ", text), form))
+            except ValueError:
+                pass
+        return text
+
+    def test_verdicts_faults_and_states_are_shown_in_words(self):
+        words = {"verdict": words_of("Verdicts"), "fault": words_of("Faults"), "state": STATES}
+        seen = {name: set() for name in words}
+        for number, _, fields in self.packets:
+            for name, show, showname in fields:
+                if name in words:
+                    self.assertIn(f"{words[name][int(show)]} ({show})", showname, number)
+                    seen[name].add(int(show))
+        self.assertEqual((seen["verdict"], seen["state"]), (set(words["verdict"]), set(STATES)))
+        self.assertGreaterEqual(seen["fault"], {1, 2, 6})
+
+    def test_answers_are_tied_to_their_requests(self):
+        pairs = [(2 * place, 2 * place + 1) for place in range(len(self.vectors))]
+        for start in (2 * len(self.vectors), 2 * len(self.vectors) + 8):
+            pairs += [(start + place, start + 4 + place) for place in range(4)]
+        for asked, answered in pairs:
+            request, answer = self.packets[asked], self.packets[answered]
+            with self.subTest(packet=request[0]):
+                ties = {name: show for name, show, _ in request[2] + answer[2] if name.startswith("response")}
+                self.assertEqual((ties["response_in"], ties["response_to"]), (str(answer[0]), str(request[0])))
+                self.assertAlmostEqual(float(ties["response_time"]), answer[1] - request[1], 6)
+
+    def test_repeats_and_conflicts_are_marked(self):
+        first = {}
+        for (number, _, fields), frame in zip(self.packets, self.expected()):
+            if not wire.is_touch(frame) or not wire.is_request(frame):
+                continue
+            marks = {name: show for name, show, _ in fields if name in ("repeat_of", "is_repeat", "is_other")}
+            before, same = first.setdefault(frame[3:9], (number, frame))
+            if before == number and same is frame:
+                wanted = set()
+            else:
+                wanted = {"repeat_of", "is_repeat"} if same == frame else {"is_other"}
+            with self.subTest(packet=number, frame=frame.hex()):
+                self.assertEqual(set(marks), wanted)
+                self.assertEqual(marks.get("repeat_of", str(before)), str(before))
+
+    def test_the_pieces_were_of_a_byte(self):
+        words = ["tshark", "-r", str(self.file), "-Y", "tcp.len == 1", "-T", "fields", "-e", "frame.number"]
+        lines = subprocess.run(words, capture_output=True, text=True, check=True).stdout.split()
+        self.assertGreaterEqual(len(lines), sum(len(request) + len(answer) for request, answer in self.first) - 20)

@@ -1,0 +1,408 @@
+"""The tests of a gate's file, for scripts/tests/gate-library: what is refused, losses of power, and calls of the system that
+fail."""
+import os
+import random
+import re
+import socket
+import struct
+import subprocess
+
+import clients
+import harness
+import model
+import wire
+from clients import CAUSE, FIRST, RESULT, SOURCE, TESTS, Careful, GateTest, Gone, Told, journey, replied_to
+from harness import EXAMPLE, TOP
+
+
+class Files(GateTest):
+    """The gate's file: what is refused, and by which cause."""
+
+    frames = journey(7, [1])[:5]
+
+    def opening(self, gate=7, addresses="127.0.0.1:1"):
+        with self.open(addresses, gate) as asker:
+            return asker.opened
+
+    def test_a_file_is_made_by_the_bytes_of_the_page(self):
+        self.assertEqual(self.create(258, 5), [CAUSE["OK"], 0, 0])
+        self.assertEqual(self.file.read_bytes(), clients.file_of([], 5, 258))
+        page = (TOP / "docs" / "GATE_LIBRARY.md").read_text()
+        rows = re.findall(r"(?m)^([0-9a-f]{4})  ((?:[0-9a-f]{2} ?)+)", page)
+        shown = dict((int(at, 16), bytes.fromhex(digits)) for at, digits in rows)
+        content = clients.file_of([FIRST[0]], 100_000, 7)
+        self.assertGreater(len(shown), 4)
+        for at, data in shown.items():
+            self.assertEqual(content[at:at + len(data)].hex(), data.hex(), hex(at))
+
+    def test_each_cause_of_a_making_is_told(self):
+        for capacity in (0, 1_000_001):
+            self.assertEqual(self.create(capacity=capacity), [CAUSE["BAD_CAPACITY"], 0, 0])
+        self.assertFalse(self.file.exists())
+        for content in (b"\0", clients.file_of(self.frames, 10, 7)):
+            self.write(content)
+            self.assertEqual(self.create(), [CAUSE["NOT_EMPTY"], 0, 0])
+            self.assertEqual(self.file.read_bytes(), content)
+        self.write(b"")
+        self.assertEqual(self.create(7, 1_000_000)[0], CAUSE["OK"])
+        self.assertEqual(clients.create(self.asker, self.folder, 7, 5)[0], CAUSE["DEVICE"])
+        self.assertEqual(clients.create(self.asker, self.folder / "no" / "file", 7, 5), [CAUSE["DEVICE"], 0, 2])
+
+    def test_each_cause_of_an_opening_is_told(self):
+        whole = clients.file_of(self.frames, 10, 7)
+        other = model.header_of(10, 1, bytes(32)) + bytes(1)
+        for name, content, wanted in (("empty", b"", "NOT_A_JOURNAL"), ("64 bytes", whole[:64], "NOT_A_JOURNAL"),
+                                      ("text", b"gate 7\n" * 20, "NOT_A_JOURNAL"),
+                                      ("version 1", whole[:8] + b"1" + whole[9:], "OTHER_VERSION"),
+                                      ("another digest", other, "ANOTHER"),
+                                      ("ten cards", model.header_of(10, 10, clients.tag(7)) + bytes(1), "ANOTHER"),
+                                      ("no cards", model.header_of(10, 0, clients.tag(7)) + bytes(1), "BAD_LIMIT"),
+                                      ("no capacity", model.header_of(0, 1, clients.tag(7)) + bytes(1), "BAD_LIMIT"),
+                                      ("another gate", clients.file_of([], 10, 8), "ANOTHER"),
+                                      ("numbers from 0", clients.file_of(
+                                          [model.touch(model.ISSUE, 7, 0, 1, 0)], 10, 7), "FOREIGN"),
+                                      ("another gate's touch", clients.file_of(
+                                          [model.touch(model.ISSUE, 8, 1, 1, 0)], 10, 7), "FOREIGN")):
+            with self.subTest(name):
+                self.write(content)
+                self.assertEqual(self.opening(), [CAUSE[wanted], 0, 0])
+                self.assertEqual(self.file.read_bytes(), content)
+        # A damaged slot is told before a foreign one that stands before it.
+        self.write(clients.file_of([FIRST[0], FIRST[0], FIRST[0]], 10, 7)[:-2])
+        self.assertEqual(self.opening(), [CAUSE["DAMAGED"], 2, 0])
+        self.file.unlink()
+        self.assertEqual(self.opening(), [CAUSE["MISSING"], 0, 2])
+        self.file.mkdir()
+        self.assertEqual(self.opening()[0], CAUSE["DEVICE"])
+        self.file.rmdir()
+        os.mkfifo(self.file)
+        self.assertEqual(self.opening()[0], CAUSE["DEVICE"])
+
+    def test_a_station_s_journal_is_another_file_and_a_server_refuses_a_gate_s(self):
+        self.serve().kill()
+        self.file = self.folder / "journal"
+        self.assertEqual(self.opening(), [CAUSE["ANOTHER"], 0, 0])
+        self.file = self.folder / "gate"
+        self.create()
+        status, _, err = harness.run(["serve", "--table", EXAMPLE, "--journal", self.file, "--cards", "1",
+                                      "--capacity", "1000", "--listen", "127.0.0.1:0", "--lines", "1"])
+        self.assertEqual((status, err), (1, "fault journal 5 WrongTable\n"))
+
+    def test_the_server_s_own_program_reads_it(self):
+        server = self.serve()
+        self.create()
+        with self.open(server.text) as asker:
+            Careful(self.frames).run(asker)
+        status, out, err = harness.run(["verify", "--journal", self.file])
+        self.assertEqual((status, err), (0, ""))
+        said = dict(line.split(" ", 1) for line in out.decode().split("\n")[:-2])
+        self.assertEqual(out.decode().split("\n")[-2], "sound")
+        self.assertEqual((said["version"], said["capacity"], said["cards"], said["touches"], said["digest"]),
+                         ("2", "1000", "1", str(len(self.frames)), clients.tag(7).hex()))
+
+    def test_a_file_is_opened_once_at_a_time(self):
+        self.create()
+        with self.open("127.0.0.1:1") as first:
+            self.assertEqual(first.opened[0], CAUSE["OK"])
+            self.assertEqual(self.opening()[0], CAUSE["IN_USE"])
+            self.assertEqual(self.create()[0], CAUSE["IN_USE"])
+        self.assertEqual(self.opening()[0], CAUSE["OK"])
+
+    def test_an_address_that_is_none_is_told(self):
+        self.create()
+        for place, addresses in enumerate((["x"], ["127.0.0.1:1", ":5"], ["127.0.0.1:1"] * 2 + ["127.0.0.1:"])):
+            with self.subTest(addresses):
+                self.assertEqual(self.opening(addresses=addresses), [CAUSE["NO_ADDRESS"], place, 0])
+        self.assertEqual(self.opening(addresses=["[::1]:5", "127.0.0.1:65535"])[0], CAUSE["OK"])
+        for addresses in (["127.0.0.1:port"], ["no-such-host.invalid:1"]):
+            self.assertEqual(self.opening(addresses=addresses)[0], CAUSE["NO_ADDRESS"])
+
+    def test_a_full_file_takes_no_touch(self):
+        self.create(capacity=2)
+        with self.open(Told(self, [replied_to(frame) for frame in FIRST]).text) as asker:
+            self.assertEqual(asker.ask("room"), [2])
+            for place in range(2):
+                self.assertEqual(asker.ask(clients.act_of(FIRST[place]))[0], RESULT["ACCEPTED"])
+            self.assertEqual(asker.ask(clients.act_of(FIRST[2])), [RESULT["NO_ROOM"], 0, 0, 0, 0, 0])
+            self.assertEqual(asker.ask("room"), [0])
+        self.assertEqual(self.file.read_bytes(), clients.file_of(FIRST[:2], 2, 7) + bytes(1))
+        self.assertEqual(self.opening()[0], CAUSE["OK"])
+        # What stands behind a full file isn't looked at.
+        self.write(clients.file_of(FIRST[:2], 2, 7))
+        self.assertEqual(self.opening()[0], CAUSE["OK"])
+
+    def test_a_long_file_is_opened(self):
+        frames = [model.touch(model.ISSUE, 7, number, 1, 0) for number in range(1, 5001)]
+        for count in (63, 64, 65, 128, 5000):
+            for capacity in (count, count + 1):
+                with self.subTest(count):
+                    self.write(clients.file_of(frames[:count], capacity, 7))
+                    with self.open("127.0.0.1:1") as asker:
+                        self.assertEqual((asker.opened, asker.ask("waiting")[:2]), ([0, 0, 0], [model.ISSUE, count]))
+
+    def check_bytes(self, program):
+        """Each byte of a file changed to each other value."""
+        whole = clients.file_of(self.frames[:4], 10, 7)
+        self.write(whole)
+        done = subprocess.run([program, self.file, "7", self.folder / "copy"], capture_output=True, text=True)
+        assert (done.returncode, done.stderr) == (0, ""), done.stderr
+        lines = done.stdout.split("\n")[:-1]
+        contents = [whole] + [whole[:at] + bytes([(whole[at] + more) % 256]) + whole[at + 1:]
+                              for at in range(len(whole)) for more in range(1, 256)]
+        assert len(lines) == len(contents)
+        for place, (line, content) in enumerate(zip(lines, contents)):
+            cause, at, touches = clients.reading(content, 7)
+            wanted = f"{cause} {at} {len(touches)}"
+            assert line == wanted, f"change {place}: {line}, and should be {wanted}"
+        return len(lines)
+
+    def test_each_byte_changed_is_read_as_the_page_says(self):
+        program = clients.built(self.folder / "openings", [TESTS / "openings.c", SOURCE])
+        self.assertGreater(self.check_bytes(program), 80_000)
+
+
+class Power(GateTest):
+    """Losses of power: a gate that ends in the middle of a write, and what a torn disk may hold."""
+
+    frames = FIRST[:3]
+
+    def check_end(self, server, asking):
+        """Opens the file that is left, and goes on to the end of the touches."""
+        with self.open(server.text) as asker:
+            asking.run(asker)
+        assert server.station.history == self.frames, [frame.hex() for frame in server.station.history]
+        assert asking.told() == clients.worked_out(self.frames), asking.told()
+        assert clients.reading(self.file.read_bytes(), 7) == (CAUSE["OK"], 0, self.frames)
+
+    def test_a_making_that_is_cut_at_each_byte_leaves_no_gate_or_a_whole_one(self):
+        for write, size in ((1, 1), (2, 64), (3, 1)):
+            for cut in range(size + 1):
+                with self.subTest(write=write, cut=cut):
+                    self.file.unlink(missing_ok=True)
+                    told = self.create(**clients.Log(clients.program("calls"), CUT=f"{write}:{cut}").options())
+                    self.assertEqual(told, [None, 0, 9])
+                    is_made = (write, cut) == (3, 1)
+                    is_empty = (write, cut) == (1, 0)
+                    with self.open("127.0.0.1:1") as asker:
+                        self.assertEqual(asker.opened[0], CAUSE["OK" if is_made else "NOT_A_JOURNAL"])
+                    self.assertEqual(self.create()[0], CAUSE["OK" if is_empty else "NOT_EMPTY"])
+
+    def check_cut(self, write, cut):
+        """The power goes in the middle of a write, two for each touch."""
+        self.file.unlink(missing_ok=True)
+        server, asking = self.planted(), Careful(self.frames)
+        assert self.create()[0] == CAUSE["OK"]
+        log = clients.Log(clients.program("calls"), CUT=f"{write}:{cut}")
+        try:
+            with self.open(server.text, **log.options()) as asker:
+                asking.run(asker)
+            raise AssertionError("the write wasn't made")
+        except Gone:
+            assert asker.process.returncode == 9
+        before = (write - 1) // 2
+        kept = before + (write % 2 == 0 and cut == 1)
+        assert clients.reading(self.file.read_bytes(), 7) == (CAUSE["OK"], 0, self.frames[:kept])
+        assert server.station.history == self.frames[:before]
+        self.check_end(server, asking)
+
+    def test_a_touch_that_is_cut_at_each_byte_is_asked_once(self):
+        for write in range(1, 2 * len(self.frames) + 1):
+            for cut in range(65 if write % 2 else 2):
+                with self.subTest(write=write, cut=cut):
+                    self.check_cut(write, cut)
+
+    def check_counting(self):
+        """Touches over three openings."""
+        self.create()
+        server, asking = self.planted(), Careful(FIRST)
+        for count in (1, 2, 4):
+            asking.frames = FIRST[:count]
+            with self.open(server.text) as asker:
+                asking.run(asker)
+        assert server.station.history == FIRST
+
+    def test_numbers_go_on_over_openings(self):
+        self.check_counting()
+
+    def logged(self):
+        """The calls of a making and of a gate that asks for the touches."""
+        log, server = clients.Log(clients.program("calls")), self.planted()
+        assert self.create(**log.options())[0] == CAUSE["OK"]
+        with self.open(server.text, **log.options()) as asker:
+            Careful(self.frames).run(asker)
+        return log.calls()
+
+    def check_kept_first(self):
+        """Nothing is sent that isn't durable, and the writes are those of docs/JOURNAL.md."""
+        disk, sent = clients.Disk(), []
+        for name, at, data in self.logged():
+            disk.call(name, at, data)
+            if name == "send":
+                sent.append(data)
+                assert not disk.pending
+                assert clients.reading(disk.durable, 7) == (CAUSE["OK"], 0, sent), f"{data.hex()} isn't kept yet"
+        assert sent == self.frames
+
+    def test_nothing_is_sent_before_it_is_durable(self):
+        self.check_kept_first()
+
+    def test_the_calls_on_the_file_are_those_of_the_page(self):
+        calls = [(name, at, len(data)) for name, at, data in self.logged()
+                 if name in ("pwrite", "fdatasync", "flock", "fsync", "fadvise", "pread")]
+        opening = [("flock", 6, 0), ("fsync", 0, 0), ("fadvise", 4, 0), ("fsync", 0, 0)]
+        sync = ("fdatasync", 0, 0)
+        wanted = [*opening, ("pwrite", 0, 1), sync, ("pwrite", 1, 64), sync, ("pwrite", 0, 1), sync, *opening,
+                  *[("pread", at, 0) for at in (0, 64, 65)]]
+        for place in range(3):
+            wanted += [("pwrite", 65 + 64 * place, 64), sync, ("pwrite", 64 + 64 * place, 1), sync]
+        self.assertEqual(calls, wanted)
+
+    def check_torn(self, seed=1):
+        """Each moment's losses of power, with any bytes where a write wasn't synced."""
+        draw, disk, asked, count = random.Random(seed), clients.Disk(), 0, 0
+        for name, at, data in self.logged():
+            disk.call(name, at, data)
+            asked += name == "send"
+            if name not in ("pwrite", "fdatasync"):
+                continue
+            for image in disk.images(draw):
+                self.check_image(image, asked)
+                count += 1
+        return count
+
+    def check_image(self, image, asked):
+        """A file that a loss of power has left, with so many touches sent: it has those, and may have one more."""
+        self.write(image)
+        cause, place, touches = clients.reading(image, 7)
+        with self.open("127.0.0.1:1") as asker:
+            assert asker.opened == [cause, place, 0], f"{asker.opened} of {image.hex()}"
+            if cause == CAUSE["OK"]:
+                waiting = asker.ask("waiting")
+                assert touches in (self.frames[:asked], self.frames[:asked + 1]), image.hex()
+                assert (waiting[1] if waiting else 0) == len(touches)
+            else:
+                assert cause == CAUSE["NOT_A_JOURNAL"] and asked == 0, f"{cause} of {image.hex()}"
+
+    def test_a_torn_write_leaves_what_was_before(self):
+        self.assertGreater(self.check_torn(), 200)
+
+
+class Refused(GateTest):
+    """Each call of the system refused in turn, fallen short, or interrupted."""
+
+    frames = FIRST
+
+    def run_once(self, server, **more):
+        """A making and a gate's run, of which a call is refused: whether one was."""
+        log, asking = clients.Log(clients.program("calls"), **more), Careful(self.frames)
+        try:
+            told = self.create(**log.options())
+            if told[0] == CAUSE["OK"]:
+                with self.open(server.text, times=(80, 60, 1, 4), **log.options()) as asker:
+                    self.ask_all(asker, asking)
+                assert asker.end() in (0, 1), asker.process.returncode
+        except Gone:
+            raise AssertionError(f"the gate ended by status {asker.process.returncode}") from None
+        is_refused = any(name == "refused" for name, _, _ in log.calls())
+        if told[0] == CAUSE["DEVICE"] and not self.is_whole():
+            # A making that was cut short is made again.
+            self.file.unlink(missing_ok=True)
+            assert self.create()[0] == CAUSE["OK"]
+        return is_refused, asking
+
+    def is_whole(self):
+        return self.file.exists() and clients.reading(self.file.read_bytes(), 7)[0] == CAUSE["OK"]
+
+    def ask_all(self, asker, asking):
+        """Asks for the touches as far as the refusal lets it."""
+        if asker.opened[0] != CAUSE["OK"]:
+            assert asker.opened[0] in (CAUSE["DEVICE"], CAUSE["MEMORY"]), asker.opened
+            return
+        limited = Limited(asker)
+        try:
+            asking.run(limited, Limited.ask)
+        except Gone:
+            # After Device the gate is stopped, whatever it is asked.
+            if limited.last[0] == RESULT["DEVICE"]:
+                for line in (clients.act_of(self.frames[0]), "resend"):
+                    assert asker.ask(line) == [RESULT["STOPPED"], 0, 0, 0, 0, 0]
+
+    def check_refused(self, **more):
+        self.file.unlink(missing_ok=True)
+        server = self.planted()
+        is_refused, asking = self.run_once(server, **more)
+        again = Careful(self.frames)
+        again.replies = asking.replies
+        with self.open(server.text) as asker:
+            again.run(asker)
+        assert server.station.history == self.frames, [frame.hex() for frame in server.station.history]
+        assert again.told() == clients.worked_out(self.frames)
+        return is_refused
+
+    def test_each_call_is_refused_once_and_from_then_on(self):
+        for onward in (0, 1):
+            for number in range(1, 200):
+                with self.subTest(number=number, onward=onward):
+                    is_refused = self.check_refused(REFUSE=number, ONWARD=onward)
+                if not is_refused:
+                    break
+            self.assertGreater(number, 45)
+
+    def check_all_refused(self):
+        for number in range(20, 40):
+            self.check_refused(REFUSE=number)
+
+    def check_parts(self):
+        """A request of which the connection took the first bytes alone."""
+        self.create()
+        log = clients.Log(clients.program("calls"), SHORT=1)
+        with self.open(self.planted().text, **log.options()) as asker:
+            Careful(self.frames[:2]).run(asker)
+        numbers = log.numbers("send")
+        assert len(numbers) == sum(map(len, self.frames[:2]))
+        for number in numbers[::4]:
+            assert self.check_refused(SHORT=1, REFUSE=number)
+
+    def test_a_request_that_was_cut_is_sent_again_over_another_connection(self):
+        self.check_parts()
+
+    def test_calls_that_fall_short_are_carried_on(self):
+        for more in ({"SHORT": 1}, {"INTERRUPT": 1}, {"SHORT": 1, "INTERRUPT": 1}):
+            with self.subTest(more):
+                self.assertFalse(self.check_refused(**more))
+
+    def test_a_connection_sends_at_once_and_is_kept_alive(self):
+        self.create()
+        log = clients.Log(clients.program("calls"))
+        with self.open(self.planted().text, **log.options()) as asker:
+            self.assertEqual(asker.ask("enquire 1")[0], RESULT["SHOWN"])
+        settings = [(at, data) for name, at, data in log.calls() if name == "setsockopt"]
+        on = struct.pack("=i", 1)
+        # The level of TCP is told apart by its first setting, which stands before that of the socket.
+        self.assertEqual(settings[:2], [(socket.TCP_NODELAY, on), (socket.SO_KEEPALIVE, on)])
+        self.assertIn((socket.TCP_KEEPIDLE, struct.pack("=i", 30)), settings)
+
+    def test_no_memory_is_taken_after_the_opening(self):
+        self.create()
+        log, server = clients.Log(clients.program("calls")), self.planted()
+        with self.open(server.text, **log.options()) as asker:
+            Careful(self.frames).run(asker)
+            asker.ask("enquire 1")
+        names = [name for name, _, _ in log.calls()]
+        self.assertIn("memory", names)
+        self.assertNotIn("memory", names[names.index("pwrite"):])
+
+
+class Limited:
+    """An asker that goes no further after three repeats in vain."""
+
+    def __init__(self, asker):
+        self.asker, self.opened, self.left, self.last = asker, asker.opened, 3, [None]
+
+    def ask(self, line):
+        told = self.asker.ask(line)
+        self.last = told or self.last
+        self.left -= bool(told) and told[0] in clients.WAITS
+        if not self.left:
+            raise Gone("given up")
+        return told

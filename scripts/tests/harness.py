@@ -1,0 +1,160 @@
+"""What the scripts share: paths, running the program, and the tests' last line 'N passed, M failed'.
+
+A test that the machine can't run is skipped with the reason, which a line tells: it counts as neither.
+"""
+import hashlib
+import os
+import pathlib
+import re
+import subprocess
+import sys
+import tempfile
+import unittest
+
+import wire
+
+TOP = pathlib.Path(__file__).resolve().parents[2]
+CRATES = TOP / "crates"
+PROGRAM = CRATES / "tap_server" / "out" / "tap_server"
+# The program of replay and check alone.
+TRIAL = CRATES / "table_trial" / "out" / "table_trial"
+EXAMPLE = TOP / "docs" / "example.toml"
+# The example table with two other prices, for revisions.
+REVISED = TOP / "docs" / "vectors-revised.toml"
+
+# How many seconds a run of the program may take.
+TIME = 60
+
+
+def kit():
+    """The folder of the toolchain's kit."""
+    said = subprocess.run(["rt", "doc"], capture_output=True, check=True, text=True)
+    return pathlib.Path(said.stdout.strip()).parent
+
+
+def library(folder, name, source):
+    """Builds a library that is put before the C library's, from this text, in the folder."""
+    text, built = folder / f"{name}.c", folder / f"{name}.so"
+    text.write_text(source)
+    clang = kit() / "toolchain" / "bin" / "clang"
+    subprocess.run([clang, "-shared", "-fPIC", "-O1", "-nostdlib", "-fuse-ld=lld", "-o", built, text], check=True)
+    return built
+
+
+# What stands on standard error beside the line of a fault and beside a table's report.
+BESIDE = re.compile(r"^(?:  .*|note: .*|new journal .*|(?:pairs|interchanges|holidays) \d+)\n", re.M)
+
+
+def run(words, given=b"", **options):
+    """Runs the program: its status, its output, and what stands on standard error, but for what scripts/tests/told-faults
+    looks at: the line behind that of a fault, and the notes on a table."""
+    status, out, err = run_whole(words, given, **options)
+    return status, out, fault_of(err)
+
+
+def run_whole(words, given=b"", program=PROGRAM, **options):
+    """Runs the program: its status, its output, and all that stands on standard error."""
+    words = [os.fsencode(word) for word in (program, *words)]
+    done = subprocess.run(words, input=given, capture_output=True, timeout=TIME, **options)
+    return done.returncode, done.stdout, done.stderr.decode()
+
+
+def fault_of(err):
+    """What stands on standard error without the line behind that of a fault, and without notes."""
+    return BESIDE.sub("", err)
+
+
+def first_line(stream):
+    """The first line that a server says on this stream, but for the one of a journal that it has made: 'listening ADDR',
+    where it serves."""
+    line = stream.readline()
+    text = line.decode() if isinstance(line, bytes) else line
+    return first_line(stream) if text.startswith("new journal ") else text
+
+
+def check(table, path="table.toml", **options):
+    """Checks a fare table of these bytes, in a file of this name."""
+    with tempfile.TemporaryDirectory() as folder:
+        file = os.path.join(os.fsencode(folder), os.fsencode(path))
+        with open(file, "wb") as writer:
+            writer.write(table)
+        return run([b"check", b"--table", file], **options)
+
+
+def valid(stations, singles, caps, table):
+    """What is written for a valid fare table."""
+    digest = hashlib.sha256(table).hexdigest()
+    return 0, f"stations {stations}\nsingles {singles}\ncaps {caps}\ndigest {digest}\n".encode(), ""
+
+
+def lines(texts):
+    """The bytes of a text of these lines."""
+    return "".join(text + "\n" for text in texts).encode()
+
+
+def vectors(server="example"):
+    """The frames of a server of docs/vectors.txt: pairs of a request and its answer, by the section that they stand
+    in."""
+    station = next(station for station in wire.vectors() if station.name == server)
+    sections = {name: [] for name in station.sections}
+    for vector in station.vectors:
+        sections[vector.section].append((vector.request.hex(), vector.answer.hex()))
+    return sections
+
+
+class Result(unittest.TextTestResult):
+    """Counts each subtest as one, and prints what fails as soon as it does."""
+
+    def __init__(self, *words, **options):
+        super().__init__(*words, **options)
+        self.passed = 0
+        self.failed = 0
+
+    def addSuccess(self, test):
+        super().addSuccess(test)
+        self.passed += 1
+
+    def addError(self, test, error):
+        super().addError(test, error)
+        self.tell(test, error)
+
+    def addFailure(self, test, error):
+        super().addFailure(test, error)
+        self.tell(test, error)
+
+    def addSkip(self, test, reason):
+        """Tells each reason once."""
+        if reason not in (told for _, told in self.skipped):
+            print(f"not run: {reason}", flush=True)
+        super().addSkip(test, reason)
+
+    def addSubTest(self, test, subtest, error):
+        super().addSubTest(test, subtest, error)
+        if error is None:
+            self.passed += 1
+        else:
+            self.tell(subtest, error)
+
+    def tell(self, test, error):
+        self.failed += 1
+        print(f"{test}: {error[0].__name__}: {error[1]}", flush=True)
+
+
+class ProgramTest(unittest.TestCase):
+    """Tests that need the built program."""
+
+    @classmethod
+    def setUpClass(cls):
+        if not PROGRAM.is_file():
+            raise FileNotFoundError(f"{PROGRAM} isn't there: run 'rt run' in crates/tap_server, or 'rt ci'")
+
+
+def main():
+    """Runs the tests of the script that was started, and ends with its status."""
+    tests = unittest.defaultTestLoader.loadTestsFromModule(sys.modules["__main__"])
+    if len(sys.argv) > 1:
+        tests = unittest.defaultTestLoader.loadTestsFromNames(sys.argv[1:], sys.modules["__main__"])
+    with open(os.devnull, "w") as silent:
+        result = unittest.TextTestRunner(silent, resultclass=Result).run(tests)
+    print(f"{result.passed} passed, {result.failed} failed")
+    sys.exit(1 if result.failed or not (result.passed or result.skipped) else 0)

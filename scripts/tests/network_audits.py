@@ -1,0 +1,232 @@
+"""Tests of network/report and network/audit. For scripts/tests/network."""
+import json
+import os
+import pathlib
+import re
+import shutil
+import signal
+import socket
+import subprocess
+import time
+import unittest
+
+import harness
+import town
+from harness import PROGRAM
+from network_base import (FLIPPED, NETWORK, PYTHON, TABLES, TIME, DatabaseTest, OnSqlite, call, flip, load, network, room)
+
+
+# What a traceback of network/audit has. Dask's own workers may write some as they end.
+FROM_AUDIT = f'File "{NETWORK / "audit"}"'
+
+
+class Reports(OnSqlite, DatabaseTest):
+    """network/report, whose charts are day-report's."""
+
+    @classmethod
+    def setUpClass(cls):
+        super().setUpClass()
+        if subprocess.run([PYTHON, "-c", "import matplotlib"], capture_output=True).returncode:
+            raise unittest.SkipTest("matplotlib isn't here (apt-get install python3-matplotlib)")
+        cls.base, cls.page = cls.fresh("report"), room("network-report-") / "day.html"
+        for stage in ("friday", "end"):
+            for name in town.SERVERS:
+                load(name, stage, cls.base)
+        cls.done = call("report", "--day", town.SATURDAY, "-o", cls.page, "--database", cls.base)
+        cls.text = cls.page.read_text() if cls.page.exists() else ""
+
+    def cells(self, section):
+        """The rows of the tables of a section, as text."""
+        part = self.text.partition(f"<h2>{section}</h2>")[2].partition("</section>")[0]
+        rows = (re.findall(r"<t[dh][^>]*>(.*?)</t[dh]>", row) for row in re.findall(r"<tr>(.*?)</tr>", part))
+        return [tuple(row) for row in rows]
+
+    def test_each_station_has_its_touches_and_its_money(self):
+        self.assertEqual((self.done.returncode, self.done.stderr), (0, ""))
+        wanted = []
+        for station in sorted(set(town.SERVERS.values())):
+            touches = [touch for touch in self.town.touches()
+                       if touch.station == station and touch.day == town.SATURDAY and touch.act != "revision"]
+            paid = sum(touch.change for touch in touches if touch.act == "top-up")
+            charged = -sum(touch.change for touch in touches if touch.act in ("in", "out"))
+            last = {touch.card: touch.act for touch in touches if touch.accepted and touch.act in ("in", "out")}
+            wanted.append((station, str(len({touch.server for touch in touches})), str(len(touches)),
+                           str(sum(not touch.accepted for touch in touches)), pounds(paid), pounds(charged),
+                           str(sum(touch.verdict in town.MAXIMA for touch in touches)),
+                           str(sum(act == "in" for act in last.values()))))
+        self.assertEqual(self.cells("Stations")[1:], wanted)
+
+    def test_maxima_revisions_and_clocks_are_those_of_the_queries(self):
+        maxima = self.town.maxima([town.SATURDAY])
+        self.assertEqual(sum(row[0] in town.SERVERS for row in self.cells("Journeys that cost a maximum")), len(maxima))
+        self.assertEqual([row[1] for row in self.cells("Revisions that a server lacks")[1:]], [town.LACKS])
+        self.assertEqual([row[:4] for row in self.cells("Gates whose moments go back")[1:]],
+                         [(*row[:2], str(row[2]), str(row[3])) for row in self.town.clocks([town.SATURDAY])])
+        self.assertEqual([row[1] for row in self.cells("Journals")[1:]], list(town.SERVERS))
+
+    def test_it_is_the_same_page_for_the_same_rows_and_needs_nothing_else(self):
+        again = self.page.with_name("again.html")
+        self.assertEqual(call("report", "--day", town.SATURDAY, "-o", again, "--database", self.base).returncode, 0)
+        self.assertEqual(again.read_text(), self.text)
+        self.assertEqual(re.findall(r"(?:src|href)=\"(?!#)[^\"]*\"", self.text), [])
+        self.assertEqual(self.text.count("<svg"), 5)
+
+    def test_a_day_without_touches_and_a_missing_database_are_told(self):
+        empty = self.page.with_name("empty.html")
+        self.assertEqual(call("report", "--day", "2024-01-01", "-o", empty, "--database", self.base).returncode, 0)
+        self.assertIn("No touch of a card bears this day.", empty.read_text())
+        done = call("report", "--day", "2024-01-01", "-o", empty, "--database", "/nowhere/network.db")
+        self.assertEqual((done.returncode, done.stderr.count("\n")), (1, 1))
+
+
+def pounds(pence):
+    return f"{'−' if pence < 0 else ''}£{abs(pence) // 100:,}.{abs(pence) % 100:02}"
+
+
+class Audits(harness.ProgramTest):
+    """network/audit: on processes of its own, and on workers of a scheduler of which one is killed."""
+
+    # Stands for the program: of one server's journal the first call waits until its worker was killed, and on another's it
+    # ends by a signal.
+    STAND_IN = """#!/bin/sh
+case "$*" in
+*birch-1*)
+    if mkdir FOLDER/first 2>/dev/null; then
+        echo "$PPID" > FOLDER/worker.new
+        mv FOLDER/worker.new FOLDER/worker
+        while [ -e FOLDER/first ]; do sleep 0.1; done
+        exit 1
+    fi ;;
+*alder-2*) kill -SEGV $$ ;;
+esac
+exec PROGRAM "$@"
+"""
+
+    @classmethod
+    def setUpClass(cls):
+        super().setUpClass()
+        if subprocess.run([PYTHON, "-c", "import distributed"], capture_output=True).returncode:
+            raise unittest.SkipTest("Dask isn't here (apt-get install python3-distributed)")
+        cls.town, cls.folder, _ = network()
+
+    def setUp(self):
+        self.room = room("network-audit-")
+        self.report = self.room / "audit.json"
+
+    def copies(self, stage):
+        """A copy of each server's journal, in the same places each time."""
+        for name in town.SERVERS:
+            (self.room / name).mkdir(exist_ok=True)
+            shutil.copy(self.folder / name / stage / "station.journal", self.room / name)
+        return [self.room / name / "station.journal" for name in town.SERVERS]
+
+    def audit(self, journals, *words, program=PROGRAM):
+        done = call("audit", *journals, *TABLES, "--report", self.report, "--program", program, *words)
+        self.assertNotIn(FROM_AUDIT, done.stderr)
+        return done, json.loads(self.report.read_text())["journals"] if self.report.exists() else {}
+
+    def sums(self, name, front):
+        """What the model has of a server: how many touches, and the cards' sums."""
+        server = self.town.servers[name]
+        self.addCleanup(self.town.fronts.update, {name: self.town.fronts[name]})
+        self.town.fronts[name] = server.fronts[front]
+        rows = [row[5:] for row in self.town.all_held() if row[2] == name]
+        sums = [sum(column) for column in zip(*rows)]
+        return {"cards": len(rows), **dict(zip(("balance", "paid_in", "charged"), sums))}
+
+    def test_sums_seals_and_what_changed_since_the_last_report(self):
+        done, first = self.audit(self.copies("friday"), "--workers", 2)
+        self.assertEqual(done.returncode, 0, done.stderr)
+        self.assertIn("100% Completed", done.stderr)
+        for name, facts in zip(town.SERVERS, first.values()):
+            self.assertEqual((facts["touches"], facts["sums"]), (self.town.servers[name].fronts[0], self.sums(name, 0)))
+        strange = self.room / "strange"
+        strange.write_text("no journal")
+        # A journal of which the mark of the first touch was lost.
+        journals, behind = self.copies("end"), self.room / "behind"
+        content = bytearray(journals[0].read_bytes())
+        content[64] = 0
+        behind.write_bytes(content)
+        slots = self.town.servers[next(iter(town.SERVERS))].fronts[1] - 1
+        done, second = self.audit([*journals, strange, "/nowhere", behind], "--workers", 2)
+        self.assertEqual(done.returncode, 1)
+        for name, facts in zip(town.SERVERS, second.values()):
+            if name != FLIPPED:
+                self.assertEqual((facts["touches"], facts["sums"]), (self.town.servers[name].fronts[1], self.sums(name, 1)))
+        flipped = str(self.room / FLIPPED / "station.journal")
+        self.assertEqual({path: facts["fault"] for path, facts in second.items() if "fault" in facts},
+                         {flipped: "fault seal 2 Changed", str(strange): "fault journal 3 NotAJournal",
+                          "/nowhere": "No such file or directory", str(behind): f"{slots} open slots behind the end"})
+        for line in (f"  {flipped}: was sound", "  journals 6 -> 9", "  sound 6 -> 5", f"  {strange}: new"):
+            self.assertIn(line, done.stdout.splitlines())
+        # It stays a fault, by the seal of before; put right, it is sound again.
+        self.assertEqual(second[flipped]["sealed"], first[flipped]["sealed"])
+        done, third = self.audit([flipped], "--workers", 1)
+        self.assertEqual((done.returncode, third[flipped]["fault"]), (1, "fault seal 2 Changed"))
+        flip(pathlib.Path(flipped))
+        done, _ = self.audit([flipped], "--workers", 1)
+        self.assertEqual(done.returncode, 0)
+        self.assertIn(f"  {flipped}: is sound again", done.stdout.splitlines())
+
+    def start(self, *words):
+        """A part of Dask, ended with the test by its id."""
+        log = open(self.room / "log", "ab")
+        started = subprocess.Popen([PYTHON, "-m", "distributed.cli." + words[0], *map(str, words[1:])], cwd=self.room,
+                                   stdin=subprocess.DEVNULL, stdout=log, stderr=log, start_new_session=True)
+        log.close()
+        self.addCleanup(started.wait)
+        self.addCleanup(started.kill)
+        return started
+
+    def test_the_journals_of_a_killed_worker_are_done_by_others(self):
+        scheduler = self.room / "scheduler.json"
+        self.start("dask_scheduler", "--host", "127.0.0.1", "--port", 0, "--no-dashboard", "--scheduler-file", scheduler)
+        workers = [self.start("dask_worker", "--scheduler-file", scheduler, "--host", "127.0.0.1", "--nthreads", 1,
+                              "--no-nanny", "--no-dashboard", "--name", f"worker-{place}", "--local-directory",
+                              self.room / f"worker-{place}") for place in range(3)]
+        stand_in = self.room / "stand-in"
+        stand_in.write_text(self.STAND_IN.replace("FOLDER", str(self.room)).replace("PROGRAM", str(PROGRAM)))
+        stand_in.chmod(0o755)
+        self.wait_for(scheduler)
+        asked = subprocess.Popen(
+            [str(word) for word in (NETWORK / "audit", *self.copies("friday"), *TABLES, "--report", self.report, "--program",
+                                    stand_in, "--scheduler", json.loads(scheduler.read_text())["address"])],
+            stdout=subprocess.PIPE, stderr=subprocess.PIPE, text=True)
+        self.wait_for(self.room / "worker")
+        worker = int((self.room / "worker").read_text())
+        self.assertIn(worker, [each.pid for each in workers])
+        os.kill(worker, signal.SIGKILL)
+        out, err = asked.communicate(timeout=TIME)
+        (self.room / "first").rmdir()
+        self.assertEqual((asked.returncode, FROM_AUDIT in err), (1, False), err)
+        found = json.loads(self.report.read_text())["journals"]
+        for name, facts in zip(town.SERVERS, found.values()):
+            if name == "alder-2":
+                self.assertEqual(facts["fault"], f"{stand_in} was ended by signal 11")
+            else:
+                self.assertEqual((facts["touches"], facts["sums"]),
+                                 (self.town.servers[name].fronts[0], self.sums(name, 0)))
+        self.assertIn("in all: journals 6, sound 5", out)
+
+    def wait_for(self, path):
+        limit = time.monotonic() + TIME
+        while not path.exists():
+            self.assertLess(time.monotonic(), limit, (self.room / "log").read_text())
+            time.sleep(0.05)
+
+    def test_a_journal_that_costs_each_worker_its_life_is_a_line(self):
+        stand_in = self.room / "stand-in"
+        stand_in.write_text(f'#!/bin/sh\ncase "$*" in *alder-2*) kill -KILL "$PPID" ;; esac\nexec {PROGRAM} "$@"\n')
+        stand_in.chmod(0o755)
+        done, found = self.audit(self.copies("friday"), "--workers", 2, program=stand_in)
+        faults = {path: facts["fault"] for path, facts in found.items() if "fault" in facts}
+        self.assertEqual((done.returncode, [*faults]), (1, [str(self.room / "alder-2" / "station.journal")]))
+        self.assertRegex(*faults.values(), "^its task was lost: KilledWorker: ")
+
+    def test_a_scheduler_that_is_not_there_is_told(self):
+        with socket.create_server(("127.0.0.1", 0)) as free:
+            port = free.getsockname()[1]
+        done = call("audit", *self.copies("friday"), *TABLES, "--report", self.report, "--program", PROGRAM, "--patience", 1,
+                    "--scheduler", f"tcp://127.0.0.1:{port}")
+        self.assertEqual((done.returncode, done.stdout, self.report.exists()), (1, "", False))
+        self.assertRegex(done.stderr, r"^audit: ")

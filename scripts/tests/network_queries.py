@@ -1,0 +1,272 @@
+"""Tests of the queries over a loaded network, of its constraints, and of PostgreSQL's plans. For scripts/tests/network."""
+import contextlib
+import re
+import signal
+import unittest
+
+import town
+from network_base import (AT, DAYS, FLIPPED, NETWORK, TIME, VALUES, DatabaseTest, OnPostgres, OnSqlite, call,
+                          database, driven, everything, load, queries, words_of)
+
+
+class Queries:
+    """The queries, over the loaded network."""
+
+    @classmethod
+    def setUpClass(cls):
+        super().setUpClass()
+        cls.base = cls.fresh("network")
+        cls.ended = [load(name, "friday", cls.base).returncode for name in town.SERVERS]
+        killed = driven("copy", "kill", words_of("birch-2", "end", cls.base))
+        killed.communicate(timeout=TIME)
+        cls.killed = killed.returncode
+        cls.again = [load(name, "end", cls.base).returncode for name in town.SERVERS]
+
+    def answered(self, name, **more):
+        """A query's rows."""
+        with contextlib.closing(database.reading(self.base)) as opened:
+            return queries.ask(opened, name, **VALUES, **more)[1]
+
+    def test_the_network_was_loaded_and_once_more_changes_nothing(self):
+        self.assertEqual((self.ended, self.killed), ([0] * 6, -signal.SIGKILL))
+        refused = [int(name == FLIPPED) for name in town.SERVERS]
+        self.assertEqual(self.again, refused)
+        old = everything(self.base)
+        self.assertEqual([load(name, "end", self.base).returncode for name in town.SERVERS], refused)
+        self.assertEqual(everything(self.base), old)
+        self.assertEqual(len(old["touches"]), sum(self.town.fronts.values()))
+
+    def test_the_servers_answered_as_the_plain_program_does(self):
+        self.assertEqual(self.others, [])
+
+    def test_each_touch_stands_there_with_its_reply(self):
+        rows = self.asked(self.base, "SELECT station, server, place, moment, day, gate, number, card, server_card, act,"
+                                     " station_number, pence, verdict, change, balance, accepted FROM history")
+        wanted = [(*touch[:3], town.moment_text(touch.moment), *touch[4:]) for touch in self.town.touches()]
+        self.assertEqual(sorted(rows, key=lambda row: row[1:3]), sorted(wanted, key=lambda row: row[1:3]))
+        self.assertEqual(sum(touch.act == "revision" for touch in self.town.touches()), 5)
+
+    def test_what_a_card_holds(self):
+        for card in (1, 40, 5 * town.CARDS, 6 * town.CARDS, 6 * town.CARDS + 1):
+            with self.subTest(card=card):
+                self.assertEqual(self.answered("held", card=card), self.town.held(card))
+
+    def test_what_all_cards_hold(self):
+        self.assertEqual(self.answered("holdings"), self.town.holdings())
+
+    def test_journeys_and_takings_by_station_and_quarter_of_an_hour(self):
+        self.assertEqual(self.answered("journeys"), self.town.journeys(DAYS))
+
+    def test_refusals_by_gate_and_verdict(self):
+        # PostgreSQL has verdicts in the order of their codes, and SQLite by their names.
+        self.assertEqual(sorted(self.answered("refusals")), self.town.refusals(DAYS))
+
+    def test_journeys_that_cost_a_maximum(self):
+        wanted = self.town.maxima(DAYS)
+        self.assertEqual({row[4] for row in wanted}, set(town.MAXIMA))
+        self.assertEqual(self.answered("maxima"), wanted)
+
+    def test_cards_that_are_inside_longer_than_a_day(self):
+        wanted = self.town.inside(DAYS[0], AT - town.DAY)
+        self.assertGreater(len(wanted), 3)
+        self.assertEqual(self.answered("inside"), wanted)
+
+    def test_a_server_that_lacks_a_revision(self):
+        # The refused journal's revision came on Friday, so its rows have it.
+        wanted = self.town.revisions()
+        self.assertEqual([row[3] for row in wanted if row[4] == "lacks it"], [town.LACKS])
+        self.assertEqual(self.answered("revisions"), wanted)
+
+    def test_a_gate_whose_moments_go_back(self):
+        wanted = self.town.clocks(DAYS)
+        self.assertEqual([row[1:3] for row in wanted], [(town.WRONG, town.GATE)])
+        self.assertEqual(self.answered("clocks"), wanted)
+
+    def test_nothing_breaks_a_promise(self):
+        self.assertEqual(self.answered("violations"), [])
+
+    def test_the_script_writes_the_answer_in_lines(self):
+        done = call("query", "journeys", "--from", DAYS[0], "--to", DAYS[1], "--database", self.base)
+        rows = [",".join(map(str, row)) for row in self.town.journeys(DAYS)]
+        self.assertEqual((done.returncode, done.stdout.splitlines()),
+                         (0, ["station,quarter,journeys,paid_in,taken", *rows]))
+        done = call("query", "inside", "--from", DAYS[0], "--at", town.moment_text(AT), "--database", self.base)
+        self.assertEqual(len(done.stdout.splitlines()), 1 + len(self.town.inside(DAYS[0], AT - town.DAY)))
+
+    def test_each_planted_breach_is_found(self):
+        last = self.town.fronts["birch-1"] - 1
+        for breach, *changes in self.breaches(last):
+            with self.subTest(breach):
+                with contextlib.closing(database.connect(self.base)) as opened:
+                    opened.execute("BEGIN")
+                    for change in changes:
+                        opened.execute(change)
+                    found = queries.ask(opened, "violations")[1]
+                self.assertIn(("Birch", "birch-1", "station.journal"), {row[:3] for row in found})
+                self.assertIn(breach, {row[4] for row in found})
+
+    def breaches(self, last):
+        """Changes of rows that pass every constraint, each with the breach that the view has to tell."""
+        of = "journal = (SELECT journal FROM journals WHERE server = 'birch-1')"
+        touches = [*self.town.servers["birch-1"].touches(self.town.fronts["birch-1"])]
+        into, out, issue, revision = (next(touch.place for touch in touches if touch.verdict == verdict)
+                                      for verdict in ("Entered", "Exited", "Issued", "Revised"))
+        set_to = f"UPDATE touches SET {{what}} WHERE {of} AND place = {{place}}"
+        yield "the journal has another number of touches than was loaded", \
+            f"DELETE FROM touches WHERE {of} AND place = {last}"
+        yield "a place before this one is missing", f"DELETE FROM touches WHERE {of} AND place = 50"
+        yield from self.twice(of, last + 1)
+        yield "the balance is not the sum of the changes", set_to.format(what="balance = balance + 1", place=into)
+        yield "a card was issued that the journal has not", set_to.format(what="card = 37", place=issue)
+        yield "the verdict does not go with whether the card was issued", set_to.format(
+            what="verdict = 'AlreadyIssued'", place=issue)
+        yield "the verdict does not go with whether the card is inside", set_to.format(
+            what="verdict = 'EnteredOverOpen'", place=into)
+        yield "travel of the card goes back", set_to.format(what="moment = '2025-01-31T00:00:00Z'", place=out)
+        yield "a revision counts from a day with travel, or not above the last one", \
+            f"UPDATE revisions SET first_day = 20119 WHERE {of}"
+        yield "a revision and its touch do not go together", f"DELETE FROM revisions WHERE {of}"
+        yield "a revision and its touch do not go together", f"UPDATE revisions SET verdict = 'BadDay' WHERE {of}"
+        self.assertGreater(revision, 0)
+
+    def test_what_no_row_may_say_is_refused(self):
+        of = "journal = (SELECT journal FROM journals WHERE server = 'birch-1')"
+        for change in (
+                "UPDATE touches SET verdict = 'Exited' WHERE act = 'in' AND verdict = 'Entered'",
+                "UPDATE touches SET verdict = 'Opened' WHERE act = 'in'", "UPDATE touches SET act = 'ride'",
+                "UPDATE touches SET change = change + 1 WHERE act = 'top-up' AND change > 0",
+                "UPDATE touches SET change = 1 WHERE verdict = 'LowBalance'",
+                "UPDATE touches SET change = -1 WHERE verdict = 'Exited'",
+                "UPDATE touches SET change = 1 WHERE verdict = 'Entered'",
+                "UPDATE touches SET station_number = NULL WHERE act = 'out'",
+                "UPDATE touches SET pence = 5 WHERE act = 'issue'", "UPDATE touches SET gate = 65536",
+                "UPDATE touches SET number = -1", "UPDATE touches SET place = -1", "UPDATE touches SET journal = 99",
+                f"UPDATE touches SET place = 1 WHERE {of} AND place = 0",
+                f"UPDATE touches SET gate = 1, number = 1 WHERE {of} AND place < 40", "DELETE FROM journals",
+                "UPDATE journals SET cards = 0", "UPDATE journals SET touches = capacity + 1",
+                "UPDATE journals SET version = 3", "UPDATE servers SET station = 'Nowhere'",
+                "UPDATE revisions SET digest = 'none'", "UPDATE revisions SET verdict = 'Entered'",
+                "INSERT INTO fare_tables (digest, content) VALUES ('12', '12')",
+                "INSERT INTO journals (server, name, version, capacity, cards, digest, touches, seal)"
+                " SELECT server, 'other', version, capacity, cards, digest, touches, seal FROM journals"):
+            with self.subTest(change):
+                with contextlib.closing(database.connect(self.base)) as opened:
+                    opened.execute("BEGIN")
+                    self.assertRaises(database.ERRORS, opened.execute, change)
+
+
+class PostgresQueries(Queries, OnPostgres, DatabaseTest):
+    """The same in PostgreSQL."""
+
+    def twice(self, of, free):
+        """A touch is copied into another month, where no key sees it."""
+        for breach, place, number in (("the gate and number stand twice", free, "number"),
+                                      ("the place stands twice", 3, "number + 100000")):
+            yield breach, "SELECT make_month('2030-01-01')", (
+                f"INSERT INTO touches SELECT journal, {place}, moment, DATE '2030-01-01', gate, {number}, card, act,"
+                f" station_number, pence, verdict, change, balance FROM touches WHERE {of} AND place = 3")
+
+
+class Words(unittest.TestCase):
+    """What network/query says of wrong words and of no database."""
+
+    def test_a_wrong_command_line_is_told(self):
+        for words, said in (([], "name a query, or --list"), (["held"], "held needs --card"),
+                            (["journeys"], "journeys needs --from"), (["inside", "--from", "2025-01-06"], "needs --at"),
+                            (["rides"], "invalid choice"), (["clocks", "--from", "6 Jan"], "'6 Jan' is no date"),
+                            (["inside", "--at", "8:00"], "'8:00' is no moment")):
+            with self.subTest(words):
+                done = call("query", *words)
+                self.assertEqual((done.returncode, done.stdout), (2, ""))
+                self.assertIn(said, done.stderr)
+
+    def test_a_database_that_is_not_there_is_told(self):
+        for base, said in (("/nowhere/network.db", "/nowhere/network.db: no such file"),
+                           ("postgresql://127.0.0.1:1/none", "")):
+            with self.subTest(base):
+                done = call("query", "violations", "--database", base)
+                self.assertEqual((done.returncode, done.stdout, "Traceback" in done.stderr), (1, "", False))
+                self.assertTrue(done.stderr.startswith(f"query: {said}"), done.stderr)
+
+    def test_the_list_has_each_query(self):
+        done = call("query", "--list")
+        self.assertEqual([line.split(":")[0] for line in done.stdout.splitlines()], [*queries.known()])
+
+
+class SqliteQueries(Queries, OnSqlite, DatabaseTest):
+    """The same in SQLite."""
+
+    def twice(self, *_):
+        """SQLite's keys refuse that."""
+        return ()
+
+
+# Rows of 60 fare days of so many servers, made by the database itself: for plans, which go by how much there is.
+MANY = """
+INSERT INTO stations (name) VALUES ('Many');
+INSERT INTO servers (name, station, first_card)
+    SELECT 'server ' || n, 'Many', 1 + 100 * (n - 1) FROM generate_series(1, 30) AS n;
+INSERT INTO fare_tables (digest, content) VALUES (encode(sha256('table'), 'hex'), 'table');
+INSERT INTO journals (server, name, version, capacity, cards, digest, touches, seal)
+    SELECT name, 'journal', 2, 1000000, 100, (SELECT digest FROM fare_tables), 3000, (SELECT digest FROM fare_tables)
+    FROM servers;
+SELECT make_month('2025-01-01'), make_month('2025-02-01');
+INSERT INTO touches
+    SELECT journal, place, '2025-01-01T08:00:00Z'::timestamptz + place * interval '28 minutes',
+           DATE '2025-01-01' + place / 51, 1 + place % 8, place, 1 + place % 100, kind::act, 1 + place % 5, NULL,
+           verdict::verdict, change, 0
+    FROM journals, generate_series(0, 2999) AS place,
+         LATERAL (SELECT * FROM (VALUES (0, 'in', 'Entered', -700), (1, 'out', 'Exited', 400), (2, 'in', 'LowBalance', 0),
+                                        (3, 'out', 'ExitedUnstarted', -700)) AS given (turn, kind, verdict, change)
+                  WHERE turn = place / 100 % 4) AS turned;
+ANALYZE;
+"""
+
+
+class Plans(OnPostgres, DatabaseTest):
+    """Each query goes by the indexes that it names, by PostgreSQL's own choice."""
+
+    @classmethod
+    def setUpClass(cls):
+        super().setUpClass()
+        cls.base = cls.fresh("plans")
+        with contextlib.closing(database.connect(cls.base)) as opened:
+            opened.make_tables()
+            opened.connection.cursor().execute(MANY)
+            opened.commit()
+
+    def parents(self):
+        """The index of `touches` that each partition's index is a part of."""
+        return dict(self.asked(self.base, "SELECT part.relname, parent.relname FROM pg_inherits"
+                                          " JOIN pg_class AS part ON part.oid = inhrelid"
+                                          " JOIN pg_class AS parent ON parent.oid = inhparent WHERE parent.relkind = 'I'"))
+
+    def indexes_of(self, query):
+        """The names of the indexes in the plan of a query of a recent fare day."""
+        values = {"card": 1234, "first": "2025-02-27", "last": "2025-02-27", "day_before": "2025-02-28T00:00:00Z"}
+        plan = self.asked(self.base, f"EXPLAIN (FORMAT JSON) {query.text}",
+                          **{name: values[name] for name in query.wanted})[0][0]
+        parents = self.parents()
+        return {parents.get(name, name) for name in re.findall(r"'Index Name': '(\w+)'", str(plan))}
+
+    def test_each_query_goes_by_the_indexes_that_it_names(self):
+        for name, query in queries.known().items():
+            with self.subTest(name):
+                self.assertLessEqual(set(query.indexes), self.indexes_of(query))
+
+    def test_there_is_no_index_but_keys_and_those_that_queries_name(self):
+        named = {index for query in queries.known().values() for index in query.indexes}
+        text = (NETWORK / "schema.sql").read_text()
+        made = set(re.findall(r"^CREATE INDEX (\w+)", text, re.M))
+        self.assertEqual(made, named)
+        # Each is above the words that name its queries.
+        for index in made:
+            words = re.search(rf"((?:^-- .*\n)+)CREATE INDEX {index} ", text, re.M)[1]
+            for name, query in queries.known().items():
+                self.assertEqual(index in query.indexes, re.search(rf"\b{name}\b", words) is not None, (index, name))
+
+    def test_a_days_query_reads_the_partition_of_its_month_alone(self):
+        query = queries.known()["journeys"]
+        plan = self.asked(self.base, f"EXPLAIN {query.text}", first="2025-02-20", last="2025-02-20")
+        read = set(re.findall(r"\btouches_\d{4}_\d\d\b", str(plan)))
+        self.assertEqual(read, {"touches_2025_02"})

@@ -1,0 +1,73 @@
+"""A server that runs, and a gate's connection to it: for the scripts that serve over TCP."""
+import pathlib
+import socket
+import struct
+import subprocess
+
+from harness import EXAMPLE, PROGRAM, TIME, first_line
+
+
+class Server:
+    """A running server on a free port, with its journal in the folder."""
+
+    def __init__(self, folder, lines=1, connections=1, cards=10, capacity=1000, table=EXAMPLE, more=(), revised=(),
+                 listen="127.0.0.1:0", **options):
+        self.journal = pathlib.Path(folder) / "journal"
+        words = ["serve", "--table", str(table), "--journal", str(self.journal), "--cards", str(cards),
+                 "--capacity", str(capacity), "--listen", listen, "--lines", str(lines)]
+        if connections is not None:
+            words += ["--connections", str(connections)]
+        words += [*more, *map(str, revised)]
+        self.process = subprocess.Popen([PROGRAM, *words], stdin=subprocess.DEVNULL, stdout=subprocess.PIPE,
+                                        stderr=subprocess.PIPE, **options)
+        said = first_line(self.process.stderr)
+        if not said.startswith("listening "):
+            raise AssertionError(f"the server said {said!r}, status {self.process.wait(TIME)}")
+        host, _, port = said.split()[1].rpartition(":")
+        self.address = host, int(port)
+
+    def connect(self):
+        return Gate(self.address)
+
+    def end(self):
+        """The status and the output, once all connections were served."""
+        out, err = self.process.communicate(timeout=TIME)
+        return self.process.returncode, out.decode().split("\n")[:-1], err.decode()
+
+    def kill(self):
+        self.process.kill()
+        self.process.communicate(timeout=TIME)
+
+
+class Gate:
+    """A gate's connection."""
+
+    def __init__(self, address):
+        self.socket = socket.create_connection(address, TIME)
+
+    def __enter__(self):
+        return self
+
+    def __exit__(self, *_):
+        self.socket.close()
+
+    def send(self, *frames):
+        self.socket.sendall(b"".join(frames))
+
+    def take(self):
+        """The next answer's frame, or what came of it before the connection ended."""
+        head = self.read(2)
+        return head + self.read(struct.unpack(">H", head)[0]) if len(head) == 2 else head
+
+    def read(self, size):
+        taken = b""
+        while len(taken) < size:
+            piece = self.socket.recv(size - len(taken))
+            if not piece:
+                break
+            taken += piece
+        return taken
+
+    def ask(self, frame):
+        self.send(frame)
+        return self.take()
