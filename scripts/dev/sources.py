@@ -34,10 +34,12 @@ TRIED = ("scripts/dev/wrong-bodies writes this file: for each wrong body that wa
          "body beside it, likewise")
 
 
+@functools.cache
 def heads(text, indent):
     """The functions at this indentation: the match, and where its signature with its clauses ends."""
     # Clauses come before a body's brace on a line of its own; without any, the brace ends the signature.
     end = re.compile(rf"^ {{{indent}}}\{{\}}?$|^ {{{indent}}}[>)].* \{{$|\}};$|^.*\)(?: -> .*)?;$", re.M)
+    found = []
     for match in FUNCTION.finditer(text):
         if len(match["indent"]) != indent:
             continue
@@ -45,7 +47,8 @@ def heads(text, indent):
         if not text.endswith(("{", "}"), 0, close):
             ended = end.search(text, match.start())
             close = ended.end() if ended else len(text)
-        yield match, close
+        found.append((match, close))
+    return found
 
 
 def functions(text, indent):
@@ -209,6 +212,7 @@ def texts(folder, parts, change=str):
                 yield f"{file.relative_to(folder.parent)}\n{change(TESTS.sub('', file.read_text()))}\n"
 
 
+@functools.cache
 def caller_sees(text):
     """What a caller sees of a file of src/ or specs/: no body and no comment."""
     return COMMENT.sub("", without_bodies(text))
