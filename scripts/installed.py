@@ -33,7 +33,7 @@ def commands():
 
 def names(text):
     """A text in which the program, the scripts and the files have the names that they have where they are installed."""
-    text = text.replace("scripts/bovtrila", "bovtrila")
+    text = text.replace("scripts/bovtrila gate_send", "gate_send").replace("scripts/bovtrila", "bovtrila")
     text = re.sub(rf"\bscripts/({'|'.join(commands())})(?![\w.-])", r"bovtrila-\1", text)
     text = re.sub(r"\bdocs/([A-Z_]+\.md)", r"\1", text).replace("crates/tap_server/stdin", f"{SHARE}/requests.txt")
     return re.sub(r"(?<![\w/])docs/(example\.toml|vectors[a-z-]*\.t)", rf"{SHARE}/docs/\1", text)

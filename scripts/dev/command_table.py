@@ -8,11 +8,15 @@ import re
 
 SOURCE = pathlib.Path(__file__).resolve().parents[2] / "crates" / "command_line" / "src"
 
+# A gate's program, which has no commands, and its words.
+GATE = "gate_send"
+GATE_SOURCE = SOURCE.parents[1] / GATE / "src" / "arguments.rt"
+
 # A command: its name, what it does, how it is called and how it ends, and its parameters in the order of the help.
 Command = collections.namedtuple("Command", "name about example parameters")
 # A parameter: its name, the names of its values (none: it is a flag), the words that the value may be (none: any), what
-# it is for, whether it has to be there, the one that it may not stand beside, and whether it is the last words.
-Parameter = collections.namedtuple("Parameter", "name values words help is_required conflict is_last")
+# it is for, whether it has to be there, those that it may not stand beside, and whether it is the last words.
+Parameter = collections.namedtuple("Parameter", "name values words help is_required conflicts is_last")
 
 TOKEN = re.compile(r'\s+|//[^\n]*|"(?P<text>(?:[^"\\]|\\.)*)"|(?P<word>[\w:]*\w)|(?P<mark>.)', re.S)
 CONST = re.compile(r"^(?:pub(?:\(\w+\))? )?const (?P<name>\w+): [^=]*=", re.M)
@@ -85,7 +89,7 @@ def parameter(known, described):
               "Revisions": lambda: ("REVISION",)}[takes.removeprefix("Takes::")]()
     words = tuple(given[1]) if takes == "Takes::Word" else ()
     return Parameter(read["name"], tuple(values), words, read["help"].replace("\n", " "), rule == "Rule::Required",
-                     other[0] if rule == "Rule::Without" else None, takes == "Takes::Revisions")
+                     tuple(other[0]) if rule == "Rule::Without" else (), takes == "Takes::Revisions")
 
 
 def commands(source=SOURCE):
@@ -109,3 +113,8 @@ def version(source=SOURCE):
 def about(source=SOURCE):
     """What the program does."""
     return constants(source / "commands.rt")["ABOUT"]
+
+
+def gate_about():
+    """What a gate's program does."""
+    return constants(GATE_SOURCE)["ABOUT"]

@@ -11,7 +11,7 @@ import subprocess
 import threading
 import time
 
-from harness import PROGRAM, TIME, TOP
+from harness import CRATES, PROGRAM, TIME, TOP
 
 BLOCK = re.compile(r"^(?P<indent> *)```\n(?P<text>(?P=indent)\$ .*?)^(?P=indent)```$", re.M | re.S)
 
@@ -93,10 +93,11 @@ class Shell:
         for script in (TOP / "scripts").iterdir():
             if script.name not in ("bovtrila", "__pycache__"):
                 (self.folder / "scripts" / script.name).symlink_to(script)
-        # The program as it is built: whether scripts/bovtrila has to build it is no question of the pages. Scripts that
-        # look on the path find it there.
+        # The programs as they are built: whether scripts/bovtrila has to build them is no question of the pages. Scripts
+        # that look on the path find the station's there.
         program, path = self.folder / "scripts" / "bovtrila", self.folder / "bin"
-        program.write_text(f'#!/bin/sh\nexec "{PROGRAM}" "$@"\n')
+        gate = CRATES / "gate_send" / "out" / "gate_send"
+        program.write_text(f'#!/bin/sh\nif [ "$1" = gate_send ]; then shift; exec "{gate}" "$@"; fi\nexec "{PROGRAM}" "$@"\n')
         program.chmod(0o755)
         path.mkdir()
         (path / "bovtrila").symlink_to(program)

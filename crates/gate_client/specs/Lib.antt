@@ -2,3 +2,4 @@ pub mod File
 pub mod Causes
 pub mod Client
 pub mod Heard
+pub mod Texts

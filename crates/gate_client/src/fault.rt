@@ -1,7 +1,14 @@
 //! Why a gate's file can't be made or opened, and why a touch isn't kept, sent or answered.
+ghost use Rattle.std.specs.Prelude.{◌≡◌, Some, codes};
+ghost use Rattle.gate_client.specs.Texts.{printed_file_fault, printed_ask_fault};
+ghost use Rattle.gate_client.specs.Texts.{printed_hear_fault};
 
-/// Why a gate's file can't be made or opened.
-#[derive(Clone, Copy, Debug, PartialEq, Eq)]
+use std::fmt;
+use thiserror::Error;
+
+/// Why a gate's file can't be made or opened, in the order of the printed numbers, which begin at
+/// 1.
+#[derive(Clone, Copy, Debug, PartialEq, Eq, Error)]
 pub enum FileFault {
     /// Memory was refused. It may come before a cause that is looked for later.
     Memory,
@@ -33,8 +40,8 @@ pub struct ClientFault<D> {
     pub cause: FileFault,
 }
 
-/// Why a touch isn't kept, in the order in which causes are looked for.
-#[derive(Clone, Copy, Debug, PartialEq, Eq)]
+/// Why a touch isn't kept, in the order in which causes are looked for and of the printed numbers.
+#[derive(Clone, Copy, Debug, PartialEq, Eq, Error)]
 pub enum AskFault {
     /// The touch that was asked for last waits for its reply.
     Waiting,
@@ -47,11 +54,11 @@ pub enum AskFault {
 }
 
 /// A write of a frame failed, or took no byte. Some of the frame wasn't written.
-#[derive(Clone, Copy, Debug, PartialEq, Eq)]
+#[derive(Clone, Copy, Debug, PartialEq, Eq, Error)]
 pub struct LineFault;
 
 /// Why there is no reply to the touch that waits. It waits on.
-#[derive(Clone, Copy, Debug, PartialEq, Eq)]
+#[derive(Clone, Copy, Debug, PartialEq, Eq, Error)]
 pub enum HearFault {
     /// A read failed or the input ended, or what was read is no reply's frame and no fault's.
     NoAnswer,
@@ -59,4 +66,59 @@ pub enum HearFault {
     Stray,
     /// The server answers the touch by the fault of this code.
     Refused(u8),
+}
+
+/// Prints the fault's number and name, and the place that it is about. It is written by hand, since
+/// the derive doesn't state what it prints.
+impl fmt::Display for FileFault {
+    ghost output = { λ fault. Some (printed_file_fault fault) };
+
+    fn fmt<W: fmt::Write>(&self, f: &mut fmt::Formatter<W>) -> fmt::Result {
+        match *self {
+            FileFault::Memory => f.write_str("1 Memory"),
+            FileFault::Device => f.write_str("2 Device"),
+            FileFault::BadLimit => f.write_str("3 BadLimit"),
+            FileFault::NotEmpty => f.write_str("4 NotEmpty"),
+            FileFault::NoFile => f.write_str("5 NoFile"),
+            FileFault::AnotherFile => f.write_str("6 AnotherFile"),
+            FileFault::Damaged(place) => write!(f, "7 Damaged {place}"),
+            FileFault::Foreign(place) => write!(f, "8 Foreign {place}"),
+        }
+    }
+}
+
+/// Prints the fault's number and name.
+impl fmt::Display for AskFault {
+    ghost output = { λ fault. Some (printed_ask_fault fault) };
+
+    fn fmt<W: fmt::Write>(&self, f: &mut fmt::Formatter<W>) -> fmt::Result {
+        match *self {
+            AskFault::Waiting => f.write_str("1 Waiting"),
+            AskFault::Stopped => f.write_str("2 Stopped"),
+            AskFault::Full => f.write_str("3 Full"),
+            AskFault::Device => f.write_str("4 Device"),
+        }
+    }
+}
+
+/// Prints the fault's name.
+impl fmt::Display for LineFault {
+    ghost output = { λ _. Some (codes "Cut") };
+
+    fn fmt<W: fmt::Write>(&self, f: &mut fmt::Formatter<W>) -> fmt::Result {
+        f.write_str("Cut")
+    }
+}
+
+/// Prints the fault's number and name, and the code that the server answers.
+impl fmt::Display for HearFault {
+    ghost output = { λ fault. Some (printed_hear_fault fault) };
+
+    fn fmt<W: fmt::Write>(&self, f: &mut fmt::Formatter<W>) -> fmt::Result {
+        match *self {
+            HearFault::NoAnswer => f.write_str("1 NoAnswer"),
+            HearFault::Stray => f.write_str("2 Stray"),
+            HearFault::Refused(code) => write!(f, "3 Refused {code}"),
+        }
+    }
 }

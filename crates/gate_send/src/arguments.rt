@@ -1,0 +1,261 @@
+//! What the words of the command line ask for, as `clap` reads them.
+
+ghost use Rattle.std.specs.Prelude.{◌≡◌, IfOk, IfSome};
+ghost use Rattle.gate_send.specs.Arguments.{IsAllowed, IsWithin};
+
+use clap::error::ErrorKind;
+use clap::{Arg, ArgAction, ArgMatches, Command, Error};
+use std::alloc::{AllocError, Global};
+
+/// The program's name in its help.
+const NAME: &str = "gate_send";
+
+/// What stands behind the name for `--version`.
+const VERSION: &str = "1.0.0
+proved by Rattle, logic dac8208d650f15bf";
+
+/// What the program does.
+const ABOUT: &str =
+    "Sends the touches of a gate to a station, each kept in the gate's file until it is answered";
+
+/// How the program is called: the line that `clap` writes has no order of its own.
+const USAGE: &str = "gate_send --gate <N> --file <FILE> [OPTIONS] <ADDR>...";
+
+/// What is read and written, how the program is called, and how it ends.
+const EXAMPLE: &str = "Each line of standard input asks for a touch: issue CARD, in CARD STATION,
+out CARD STATION or top-up CARD PENCE, and in front of it at SECONDS, where its moment isn't the
+clock's. Each reply is a line of standard output: gate, number, card, act, station, pence, verdict,
+change and balance. A run begins with the last touch of the file, whose reply is the first line.
+
+Example, the first run of gate 7, which makes its file, and a card that is issued and topped up:
+  printf 'issue 3\\ntop-up 3 1000\\n' |
+    gate_send --gate 7 --file gate7.touches --new 192.168.1.10:7040
+
+Example, what waits from before, by two stations of one journal:
+  gate_send --gate 7 --file gate7.touches --resend 192.168.1.10:7040 192.168.1.11:7040
+
+Statuses: 0 all is answered, 1 a fault (standard error has its line; a touch that was kept waits in
+the file), 2 a wrong command line";
+
+/// The most touches that a gate's file has room for.
+pub(crate) const CAPACITY_LIMIT: u32 = 1_000_000;
+/// The highest number of a gate.
+const GATE_LIMIT: u32 = 65_535;
+/// The most tries of a touch that can be asked for.
+const TRIES_LIMIT: u32 = 1_000_000;
+/// The most milliseconds that an answer can be waited for.
+const TIMEOUT_LIMIT: u32 = 3_600_000;
+/// How many milliseconds it is waited for where none are named (docs/PROTOCOL.md, "When to repeat,
+/// and how often").
+const TIMEOUT: u32 = 2_000;
+/// The longest pause between two tries, in milliseconds.
+pub(crate) const LONGEST_PAUSE: u32 = 30_000;
+/// How many milliseconds the first pause has where none are named.
+const FIRST_PAUSE: u32 = 200;
+
+/// What stands for a number that has a sign.
+const NOT_DECIMAL: &str = "a number is written in the digits 0 to 9 alone";
+
+/// What stands for an address that is none.
+const NOT_AN_ADDRESS: &str = "an address is a host and a port, as 192.168.1.10:7040";
+
+/// The text of Rust's `clap` for this.
+const NOT_UTF8: &str = "invalid UTF-8 was detected in one or more arguments";
+
+/// What the program is asked to do.
+#[derive(Debug, Drop)]
+pub(crate) struct Arguments<'a> {
+    /// The number of the gate.
+    pub(crate) gate: u16,
+    /// The path of its file.
+    pub(crate) file: &'a str,
+    /// Whether the file is made.
+    pub(crate) is_new: bool,
+    /// How many touches a file has room for that is made.
+    pub(crate) capacity: u32,
+    /// Whether what waits is sent alone, and no line is read.
+    pub(crate) resends: bool,
+    /// How often a touch is tried, where it is ever given up.
+    pub(crate) tries: Option<u32>,
+    /// How many milliseconds a connection, a read or a write may take.
+    pub(crate) timeout: u32,
+    /// How many milliseconds the first pause between two tries has.
+    pub(crate) pause: u32,
+    /// The station's addresses, in their order.
+    pub(crate) addresses: Vec<&'a str>,
+}
+
+/// What the words of the command line ask for; the program's own name is the first of them. The
+/// error says that help or the version was asked for, or what is wrong. Its text and status are
+/// `clap`'s.
+pub(crate) fn arguments_of<'a>(alloc: Global, words: &'a [&'a str]) -> Result<Arguments<'a>, Error>
+    ensures { IfOk result IsAllowed }
+{
+    let mut command = command(alloc)?;
+    asked_of(alloc, &mut command, words)
+}
+
+/// What the words ask for, as this command reads them.
+fn asked_of<'a>(
+    alloc: Global,
+    command: &mut Command<'a>,
+    words: &'a [&'a str],
+) -> Result<Arguments<'a>, Error>
+    ensures { IfOk result IsAllowed }
+{
+    let matches = command.try_get_matches_from_mut(words)?;
+    let addresses = match matches.get_strs("addresses") {
+        Some(texts) => texts.to_vec(alloc)?,
+        None => Vec::new(alloc),
+    };
+    if !addresses.iter().all(|address| is_address(address)) {
+        return Err(command.error(ErrorKind::InvalidValue, NOT_AN_ADDRESS)?);
+    }
+    match asked(&matches, addresses) {
+        Some(asked) => Ok(asked),
+        None => Err(command.error(ErrorKind::InvalidValue, NOT_DECIMAL)?),
+    }
+}
+
+/// What the matches ask for. `None` where a number isn't written in decimal digits.
+fn asked<'a>(matches: &ArgMatches<'a>, addresses: Vec<&'a str>) -> Option<Arguments<'a>>
+    ensures { IfSome result IsAllowed }
+{
+    let gate = number_given(matches, "gate", GATE_LIMIT)??;
+    let capacity = number_given(matches, "capacity", CAPACITY_LIMIT)?.unwrap_or(CAPACITY_LIMIT);
+    let tries = number_given(matches, "tries", TRIES_LIMIT)?;
+    let timeout = number_given(matches, "timeout", TIMEOUT_LIMIT)?.unwrap_or(TIMEOUT);
+    let pause = number_given(matches, "pause", LONGEST_PAUSE)?.unwrap_or(FIRST_PAUSE);
+    Some(Arguments {
+        gate: gate as u16,
+        file: matches.get_str("file")?,
+        is_new: matches.get_flag("new"),
+        capacity,
+        resends: matches.get_flag("resend"),
+        tries,
+        timeout,
+        pause,
+        addresses,
+    })
+}
+
+/// The number that an option has which may be left out. `None` where it is given and is above this
+/// limit, or isn't written in decimal digits alone: a parser of numbers takes a sign as well.
+fn number_given(matches: &ArgMatches<'_>, name: &str, limit: u32) -> Option<Option<u32>>
+    ensures { IfSome result (λ given. IfSome given (IsWithin limit)) }
+{
+    let Some(text) = matches.get_str(name) else {
+        return Some(None);
+    };
+    let number = matches.get_one::<u32>(name)?;
+    let is_decimal = text.bytes().all(|byte| byte.is_ascii_digit());
+    if is_decimal && number <= limit {
+        Some(Some(number))
+    } else {
+        None
+    }
+}
+
+/// Whether a text is a host and a port.
+fn is_address(text: &str) -> bool {
+    match text.rsplit_once(':') {
+        Some((host, port)) => !host.is_empty() && port.parse::<u16>().is_ok(),
+        None => false,
+    }
+}
+
+/// The refusal of a command line with a word that isn't UTF-8.
+pub(crate) fn refuse_bytes(alloc: Global) -> Result<Error, Error> {
+    Ok(command(alloc)?.error(ErrorKind::InvalidValue, NOT_UTF8)?)
+}
+
+/// The command line of the program.
+fn command<'a>(alloc: Global) -> Result<Command<'a>, Error> {
+    let command = Command::new(alloc, NAME)
+        .bin_name(NAME)?
+        .version(VERSION)
+        .about(ABOUT)
+        .override_usage(USAGE)
+        .after_help(EXAMPLE);
+    let command = with_file(alloc, command)?;
+    Ok(with_tries(alloc, command)?)
+}
+
+/// The command line with the options of the gate and its file.
+fn with_file<'a>(alloc: Global, command: Command<'a>) -> Result<Command<'a>, AllocError> {
+    let command = command.arg(
+        number(alloc, "gate", 0, GATE_LIMIT)
+            .value_name("N")
+            .required(true)
+            .help("The gate's number, from 0 to 65535"),
+    )?;
+    let command = command.arg(
+        option(alloc, "file")
+            .value_name("FILE")
+            .required(true)
+            .help("The gate's file, which no other gate and no server has"),
+    )?;
+    let command = command.arg(flag(alloc, "new").help(
+        "Makes the file; without it a file that isn't there is a fault",
+    ))?;
+    command.arg(
+        number(alloc, "capacity", 1, CAPACITY_LIMIT)
+            .value_name("N")
+            .help(
+                "How many touches a new file has room for, from 1 to 1000000;\nwithout it 1000000",
+            )
+            .requires_arg("new")?,
+    )
+}
+
+/// The command line with the options of the sending, and the addresses.
+fn with_tries<'a>(alloc: Global, command: Command<'a>) -> Result<Command<'a>, AllocError> {
+    let command = command.arg(flag(alloc, "resend").help(
+        "Sends what waits from before alone, and reads no line",
+    ))?;
+    let command = command.arg(
+        number(alloc, "tries", 1, TRIES_LIMIT).value_name("N").help(
+            "Ends after so many tries of a touch, from 1 to 1000000;\nwithout it none is given up",
+        ),
+    )?;
+    let command = command.arg(
+        number(alloc, "timeout", 1, TIMEOUT_LIMIT)
+            .value_name("MILLISECONDS")
+            .help(
+                "How long a connection or an answer is waited for, from 1 to 3600000;\nwithout it 2000",
+            ),
+    )?;
+    let command = command.arg(
+        number(alloc, "pause", 1, LONGEST_PAUSE)
+            .value_name("MILLISECONDS")
+            .help(
+                "The pause before the second try, from 1 to 30000, without it 200;\neach further one is twice as long, up to 30000",
+            ),
+    )?;
+    command.arg(
+        Arg::new(alloc, "addresses")
+            .value_name("ADDR")
+            .num_args(1..)
+            .action(ArgAction::Append)
+            .required(true)
+            .help(
+                "The station's addresses and ports, as 192.168.1.10:7040: the next one is\ntaken after a fault",
+            ),
+    )
+}
+
+/// An option with a value.
+fn option<'a>(alloc: Global, name: &'a str) -> Arg<'a> {
+    Arg::new(alloc, name).long(name).action(ArgAction::Set)
+}
+
+/// An option without a value.
+fn flag<'a>(alloc: Global, name: &'a str) -> Arg<'a> {
+    Arg::new(alloc, name).long(name).action(ArgAction::SetTrue)
+}
+
+/// An option with a number within limits.
+fn number<'a>(alloc: Global, name: &'a str, least: u32, limit: u32) -> Arg<'a> {
+    let range = clap::value_parser!(u32).range(i64::from(least)..=i64::from(limit));
+    option(alloc, name).value_parser(range)
+}

@@ -1,0 +1,112 @@
+//! Why a run ended before all was answered, and what is told of it on standard error.
+
+ghost use Rattle.std.specs.Prelude.{◌≡◌};
+ghost use Rattle.gate_send.specs.declared.fault.SendFault.TheVariants.{Memory};
+ghost use Rattle.gate_send.specs.Told.{told_fault};
+
+use clap::Error as LineError;
+use clap::error::ErrorKind;
+use gate_client::{AskFault, FileFault};
+use gate_sending::SettleFault;
+use std::alloc::AllocError;
+use std::process::ExitCode;
+use std::{fmt, io};
+
+/// What stands behind the line of a fault: nothing where there was no memory for it.
+pub(crate) type Detail = Option<String>;
+
+/// Why a run ended before all was answered.
+#[derive(Debug, Drop)]
+pub(crate) enum SendFault {
+    /// The command line asks for help or the version, or for nothing that the program does.
+    Line(LineError),
+    /// There was no memory for the command line or a line.
+    Memory,
+    /// A read from standard input failed.
+    Read,
+    /// A write to standard output failed.
+    Write,
+    /// The system's file for the gate's file can't be had.
+    File(Detail),
+    /// The gate's file can't be made or opened.
+    GateFile(FileFault, Detail),
+    /// The line of this number, from 1, asks for no touch.
+    BadLine(u64, Detail),
+    /// The clock can't be read, or is behind 1970 or ahead of 2106.
+    Clock,
+    /// A touch can't be kept.
+    Ask(AskFault, Detail),
+    /// A touch that was kept isn't settled, and waits on.
+    Settle(SettleFault, Detail),
+}
+
+/// Prints the line that standard error gets of the fault, without its line feed.
+impl fmt::Display for SendFault {
+    ghost output = { told_fault };
+
+    fn fmt<W: fmt::Write>(&self, f: &mut fmt::Formatter<W>) -> fmt::Result {
+        match self {
+            SendFault::Line(error) => write!(f, "{error}"),
+            SendFault::Memory => f.write_str("fault run 1 Memory"),
+            SendFault::Read => f.write_str("fault run 2 Read"),
+            SendFault::Write => f.write_str("fault run 3 Write"),
+            SendFault::File(_) => f.write_str("fault file"),
+            SendFault::GateFile(fault, _) => write!(f, "fault gate-file {fault}"),
+            SendFault::BadLine(number, _) => write!(f, "fault line {number}"),
+            SendFault::Clock => f.write_str("fault clock"),
+            SendFault::Ask(fault, _) => write!(f, "fault ask {fault}"),
+            SendFault::Settle(fault, _) => write!(f, "fault {fault}"),
+        }
+    }
+}
+
+impl SendFault {
+    /// The line that stands behind the fault's, where there is one.
+    fn detail(&self) -> Option<&str> {
+        match self {
+            SendFault::File(detail) => detail.as_deref(),
+            SendFault::GateFile(_, detail) => detail.as_deref(),
+            SendFault::BadLine(_, detail) => detail.as_deref(),
+            SendFault::Ask(_, detail) => detail.as_deref(),
+            SendFault::Settle(_, detail) => detail.as_deref(),
+            _ => None,
+        }
+    }
+}
+
+/// Tells standard error why a run ended, and answers the status: that of `clap` for a command line,
+/// else 1. Help and the version go to standard output. The error is that of the writing.
+pub(crate) fn tell_fault<R: Print + Eprint>(rt: &R, fault: SendFault) -> io::Result<ExitCode> {
+    match fault {
+        SendFault::Line(error) => {
+            error.print(rt)?;
+            Ok(ExitCode::from(error.exit_code() as u8))
+        }
+        fault => {
+            rt.eprintln(&fault)?;
+            if let Some(detail) = fault.detail() {
+                rt.eprintln(detail)?;
+            }
+            Ok(ExitCode::from(1))
+        }
+    }
+}
+
+impl From<AllocError> for SendFault {
+    ghost from_gives = { λ _ fault. fault ≡ Memory };
+
+    fn from(_error: AllocError) -> SendFault {
+        SendFault::Memory
+    }
+}
+
+/// A command line for which there was no memory is a fault of the run.
+impl From<LineError> for SendFault {
+    fn from(error: LineError) -> SendFault {
+        if error.kind() == ErrorKind::OutOfMemory {
+            SendFault::Memory
+        } else {
+            SendFault::Line(error)
+        }
+    }
+}

@@ -1,0 +1,171 @@
+//! The lines of the input: each is read, kept as a touch, settled and told before the next is read.
+
+use crate::arguments::Arguments;
+use crate::fault::{Detail, SendFault};
+use crate::file::system_said;
+use crate::station::TcpStation;
+use gate_client::{AskFault, Client};
+use gate_sending::{Asked, Line, Told, asked_by, settle};
+use oyster_account::Touch;
+use std::alloc::Global;
+use std::io::{self, ErrorKind};
+use std::net::{Net, TcpListener, TcpStream};
+use std::time::{Clock, Duration};
+use tap_disk::FileDisk;
+
+/// How a line that asks for a touch is written.
+const FORMS: &str = "write issue CARD, in CARD STATION, out CARD STATION or top-up CARD PENCE, \
+behind at SECONDS where it isn't of now";
+
+/// The most of a bad line that is shown, in characters.
+const SHOWN: usize = 40;
+
+/// A run over a gate's file.
+struct Run<'a, R> {
+    rt: &'a R,
+    asked: &'a Arguments<'a>,
+    client: Client<FileDisk>,
+    station: TcpStation<'a, R>,
+    /// The line to the station, where the last touch was settled over it.
+    line: Option<Line<TcpStream, TcpStream>>,
+}
+
+/// By hand, so that it is one call wherever one is dropped.
+impl<R> Drop for Run<'_, R> {
+    fn drop(self) {
+        let Run {
+            rt: _,
+            asked: _,
+            client: _,
+            station: _,
+            line: _,
+        } = self;
+    }
+}
+
+/// Settles the touch that waits, where one does, and then asks for, settles and tells what each
+/// line of the input asks for, unless what waits was to be sent alone.
+pub(crate) fn send_lines<
+    R: AllocGlobal
+        + Input
+        + Print
+        + Eprint
+        + Net<Listener = TcpListener, Stream = TcpStream>
+        + Clock,
+>(rt: &R, client: Client<FileDisk>, asked: &Arguments<'_>) -> Result<(), SendFault> {
+    let timeout = Duration::from_millis(u64::from(asked.timeout));
+    let station = TcpStation::new(rt, asked.addresses.as_slice(), timeout, asked.pause);
+    let mut run = Run {
+        rt,
+        asked,
+        client,
+        station,
+        line: None,
+    };
+    if let Some(touch) = run.client.waiting() {
+        run.settle(&touch)?;
+    }
+    if asked.resends { Ok(()) } else { run.lines() }
+}
+
+impl<
+    R: AllocGlobal
+        + Input
+        + Print
+        + Eprint
+        + Net<Listener = TcpListener, Stream = TcpStream>
+        + Clock,
+> Run<'_, R> {
+    /// Reads the input line by line to its end, and sends what each asks for.
+    fn lines(&mut self) -> Result<(), SendFault> {
+        let mut line = String::new(self.rt.alloc());
+        for number in 1..u64::MAX {
+            line.clear();
+            match self.rt.read_line(&mut line) {
+                Ok(0) => return Ok(()),
+                Ok(_) => self.line(number, line.as_str())?,
+                Err(error) => return Err(read_fault(&error, number)),
+            }
+        }
+        Ok(())
+    }
+
+    /// Sends what a line asks for.
+    fn line(&mut self, number: u64, line: &str) -> Result<(), SendFault> {
+        let line = line.strip_suffix('\n').unwrap_or(line);
+        let now = self.now()?;
+        let Some(asked) = asked_by(line, now) else {
+            return Err(bad_line(self.rt.alloc(), number, line));
+        };
+        let touch = self.ask(&asked)?;
+        self.settle(&touch)
+    }
+
+    /// The moment, in seconds since 1970-01-01 00:00:00 UTC.
+    fn now(&self) -> Result<u32, SendFault> {
+        let Ok(now) = self.rt.since_1970() else {
+            return Err(SendFault::Clock);
+        };
+        u32::try_from(now.as_secs()).map_err(|_| SendFault::Clock)
+    }
+
+    /// Keeps the touch that is asked for.
+    fn ask(&mut self, asked: &Asked) -> Result<Touch, SendFault> {
+        match self.client.ask(asked.card, asked.act) {
+            Ok(touch) => Ok(touch),
+            Err(fault) => Err(SendFault::Ask(fault, self.ask_detail(fault))),
+        }
+    }
+
+    /// What stands behind the line of a touch that isn't kept.
+    fn ask_detail(&self, fault: AskFault) -> Detail {
+        let (alloc, path) = (self.rt.alloc(), self.asked.file);
+        match fault {
+            AskFault::Device => system_said(alloc, path),
+            _ => format!(in alloc; "  {path}").ok(),
+        }
+    }
+
+    /// Settles the touch that waits, and tells its reply.
+    fn settle(&mut self, touch: &Touch) -> Result<(), SendFault> {
+        if self.client.waiting().is_none() {
+            return Ok(());
+        }
+        let tries = self.asked.tries.unwrap_or(u32::MAX);
+        let line = self.line.take();
+        match settle(&mut self.client, &mut self.station, line, tries) {
+            Ok((reply, line)) => {
+                self.line = Some(line);
+                self.station.rest();
+                let told = Told {
+                    touch: *touch,
+                    reply,
+                };
+                self.rt.println(&told).map_err(|_| SendFault::Write)
+            }
+            Err(fault) => Err(SendFault::Settle(fault, self.waits(touch))),
+        }
+    }
+
+    /// What stands behind the line of a touch that isn't settled.
+    fn waits(&self, touch: &Touch) -> Detail {
+        let (alloc, path) = (self.rt.alloc(), self.asked.file);
+        let (gate, number) = (touch.gate, touch.number);
+        format!(in alloc; "  {path}: gate {gate} number {number} waits; settle it by --resend").ok()
+    }
+}
+
+/// The fault of a line that isn't read.
+fn read_fault(error: &io::Error, number: u64) -> SendFault {
+    match error.kind() {
+        ErrorKind::InvalidData => SendFault::BadLine(number, None),
+        ErrorKind::OutOfMemory => SendFault::Memory,
+        _ => SendFault::Read,
+    }
+}
+
+/// The fault of a line that asks for no touch.
+fn bad_line(alloc: Global, number: u64, line: &str) -> SendFault {
+    let shown = line.get(..SHOWN).unwrap_or(line);
+    SendFault::BadLine(number, format!(in alloc; "  {shown:?}: {FORMS}").ok())
+}

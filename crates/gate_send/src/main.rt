@@ -1,0 +1,69 @@
+//! A gate's program: it reads what to ask for as lines, keeps each touch in the gate's file, sends
+//! it to a station over TCP until its reply is there, and prints the reply. What it sends and tells
+//! is proved in `gate_client` and `gate_sending`; here are the command line, the file, sockets and
+//! times.
+#![tactic(auto)]
+
+mod arguments;
+mod fault;
+mod file;
+mod lines;
+mod station;
+
+use crate::arguments::{Arguments, arguments_of};
+use crate::fault::{SendFault, tell_fault};
+use crate::file::gate_file;
+use crate::lines::send_lines;
+use std::fs::File;
+use std::net::{Net, TcpListener, TcpStream};
+use std::process::ExitCode;
+use std::rt::{Env, Files};
+use std::time::Clock;
+use std::{env, io};
+
+fn main(rt: HostRuntime) -> io::Result<ExitCode> {
+    match run(&rt) {
+        Ok(()) => Ok(ExitCode::SUCCESS),
+        Err(fault) => tell_fault(&rt, fault),
+    }
+}
+
+/// Does what the command line asks for.
+fn run<
+    R: AllocGlobal
+        + Env
+        + Files<File = File>
+        + Input
+        + Print
+        + Eprint
+        + Net<Listener = TcpListener, Stream = TcpStream>
+        + Clock,
+>(rt: &R) -> Result<(), SendFault> {
+    let words = words_of(rt)?;
+    let words: Vec<&str> = words.iter().map(|word| word.as_str()).collect(rt.alloc())?;
+    let asked = arguments_of(rt.alloc(), words.as_slice())?;
+    send(rt, &asked)
+}
+
+/// Opens or makes the gate's file, and sends what waits there and what the input asks for.
+fn send<
+    R: AllocGlobal
+        + Files<File = File>
+        + Input
+        + Print
+        + Eprint
+        + Net<Listener = TcpListener, Stream = TcpStream>
+        + Clock,
+>(rt: &R, asked: &Arguments<'_>) -> Result<(), SendFault> {
+    let client = gate_file(rt, asked)?;
+    send_lines(rt, client, asked)
+}
+
+/// The words of the command line, the program's name first.
+fn words_of<R: AllocGlobal + Env>(rt: &R) -> Result<Vec<String>, SendFault> {
+    match env::args(rt) {
+        Ok(words) => Ok(words.collect(rt.alloc())?),
+        Err(error) if error.kind() == io::ErrorKind::OutOfMemory => Err(SendFault::Memory),
+        Err(_) => Err(SendFault::Line(arguments::refuse_bytes(rt.alloc())?)),
+    }
+}

@@ -1,0 +1,115 @@
+//! The lines to a station over TCP: its addresses in turn, and pauses that grow between the tries.
+
+ghost use Rattle.std.specs.Prelude.{⊤};
+
+use crate::arguments::LONGEST_PAUSE;
+use gate_sending::{Line, Station, TryFault};
+use std::net::{Net, TcpListener, TcpStream, ToSocketAddrs};
+use std::time::{Clock, Duration};
+use std::{io, thread};
+
+/// A station over TCP.
+#[derive(Drop)]
+pub(crate) struct TcpStation<'a, R> {
+    /// What it connects, waits and tells by.
+    rt: &'a R,
+    /// Its addresses.
+    addresses: &'a [&'a str],
+    /// Which of them the next line is made to.
+    next: usize,
+    /// How long a connection, a read or a write may take.
+    timeout: Duration,
+    /// The first pause, in milliseconds.
+    first: u32,
+    /// The next pause, in milliseconds.
+    pause: u32,
+}
+
+impl<'a, R: Net<Listener = TcpListener, Stream = TcpStream> + Clock + Eprint> TcpStation<'a, R> {
+    /// The station with these addresses, of which the first is taken first, and with this first
+    /// pause.
+    pub(crate) fn new(
+        rt: &'a R,
+        addresses: &'a [&'a str],
+        timeout: Duration,
+        first: u32,
+    ) -> TcpStation<'a, R> {
+        TcpStation {
+            rt,
+            addresses,
+            next: 0,
+            timeout,
+            first,
+            pause: first,
+        }
+    }
+
+    /// A touch is settled: the next pause is the first again.
+    pub(crate) fn rest(&mut self) {
+        self.pause = self.first;
+    }
+
+    /// The address that the next line is made to.
+    fn address(&self) -> &'a str {
+        self.addresses.get(self.next).copied().unwrap_or("")
+    }
+
+    /// The next pause, shorter by a part of up to a half that other gates don't have alike.
+    fn next_pause(&mut self) -> Duration {
+        let part = match self.rt.since_1970() {
+            Ok(now) => now.subsec_micros() % 1_000,
+            Err(_) => 0,
+        };
+        let pause = u64::from(self.pause);
+        self.pause = self.pause.saturating_mul(2).min(LONGEST_PAUSE);
+        Duration::from_micros((pause * 1_000).saturating_sub(pause * u64::from(part) / 2))
+    }
+}
+
+impl<R: Net<Listener = TcpListener, Stream = TcpStream> + Clock + Eprint> Station<
+    TcpStream,
+    TcpStream,
+> for TcpStation<'_, R> {
+    ghost made = { λ _. ⊤ };
+
+    fn connect(&mut self) -> Option<Line<TcpStream, TcpStream>> {
+        line_to(self.rt, self.address(), self.timeout).ok()
+    }
+
+    fn failed(&mut self, fault: TryFault) {
+        let address = self.address();
+        let _ = eprintln!(self.rt; "again {address} {fault}");
+        let next = self.next.saturating_add(1);
+        self.next = if next < self.addresses.len() { next } else { 0 };
+        let pause = self.next_pause();
+        thread::sleep(self.rt, pause);
+    }
+}
+
+/// A line to an address. Each of the addresses that a host's name has is tried.
+fn line_to<R: Net<Listener = TcpListener, Stream = TcpStream>>(
+    rt: &R,
+    address: &str,
+    timeout: Duration,
+) -> io::Result<Line<TcpStream, TcpStream>> {
+    let mut last = io::Error::from(io::ErrorKind::InvalidInput);
+    for found in address.to_socket_addrs(rt)? {
+        match TcpStream::connect_timeout(rt, &found, timeout) {
+            Ok(stream) => return line_over(stream, timeout),
+            Err(error) => last = error,
+        }
+    }
+    Err(last)
+}
+
+/// The line of a connection, with its times. Its ends are clones, whose descriptors are above 2:
+/// where the program was started with standard output closed, what is printed would go to the
+/// station.
+fn line_over(stream: TcpStream, timeout: Duration) -> io::Result<Line<TcpStream, TcpStream>> {
+    stream.set_nodelay(true)?;
+    stream.set_read_timeout(Some(timeout))?;
+    stream.set_write_timeout(Some(timeout))?;
+    let reader = stream.try_clone()?;
+    let writer = stream.try_clone()?;
+    Ok(Line { reader, writer })
+}

@@ -1,0 +1,3 @@
+mod Examples
+pub mod AskingLemmas
+pub mod SettlingLemmas

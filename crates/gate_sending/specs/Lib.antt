@@ -1,0 +1,4 @@
+pub mod Asking
+pub mod Exchange
+pub mod Told
+pub mod Texts
