@@ -1,0 +1,4 @@
+pub mod GateLemmas
+pub mod StationLemmas
+pub mod SessionLemmas
+pub mod SettledLemmas

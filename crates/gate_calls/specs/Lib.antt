@@ -1,0 +1,5 @@
+pub mod Gate
+pub mod Calls
+pub mod Station
+pub mod Sessions
+pub mod Settled

@@ -1,0 +1,40 @@
+//! Laws of the calls of a gate and of a session, each the contract of a call that does nothing:
+//! which steps of `gate_rounds` they are.
+ghost use Rattle.gate_calls.specs.Calls.{IsAsking, IsSending, IsSendingInPart, IsHearing};
+ghost use Rattle.gate_calls.specs.Calls.{IsOpening, IsOpeningAfterAsking};
+ghost use Rattle.gate_calls.specs.Sessions.{AreSessionsRuns};
+
+use gate_client::Client;
+use gate_session::Clerk;
+use tap_disk::Disk;
+
+/// What `Client::ask` leaves where it hands out a touch is the step Asks.
+pub fn asking_is_a_step<D: Disk>(old: &Client<D>, new: &Client<D>)
+    ensures { IsAsking old.now new.now }
+{}
+
+/// What `Client::send` leaves where it wrote all of the frame is the step Sends. On the line stands
+/// the touch then, and none where some of the frame is missing.
+pub fn sending_is_a_step<D: Disk>(client: &Client<D>)
+    ensures whole { IsSending client.now }
+    ensures part { IsSendingInPart client.now }
+{}
+
+/// What `Client::hear` leaves where it hands out a reply is the step Hears, if the reply that it
+/// read was written before: the premise Line.
+pub fn hearing_is_a_step<D: Disk>(old: &Client<D>, new: &Client<D>)
+    ensures { IsHearing old.now new.now }
+{}
+
+/// What `Client::open` makes of the file of the touches that were kept is the step Opens. Behind a
+/// crash at any moment of `Client::ask` it is Opens alone, or Asks and then Opens.
+pub fn opening_is_a_step<D: Disk>(old: &Client<D>, opened: &Client<D>)
+    ensures kept { IsOpening opened.now }
+    ensures after_asking { IsOpeningAfterAsking old.now opened.now }
+{}
+
+/// Each session of a clerk who does what a station does is a run of the steps Enters, Answers and
+/// Tells, over the bytes of both sides: the k-th answer is to the k-th request.
+pub fn sessions_are_runs<C: Clerk>()
+    ensures { AreSessionsRuns C.gives }
+{}
