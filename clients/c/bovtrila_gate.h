@@ -73,8 +73,11 @@ enum bovtrila_result {
        and open it again, and bovtrila_waiting tells. */
     BOVTRILA_DEVICE = 12,
 
-    /* bovtrila_resend had nothing to send. */
-    BOVTRILA_NONE_WAITS = 13
+    /* bovtrila_resend had nothing to send, or bovtrila_hear nothing to hear of. */
+    BOVTRILA_NONE_WAITS = 13,
+
+    /* Of bovtrila_ask alone: the touch is in the file, and waits. Nothing was sent. */
+    BOVTRILA_KEPT = 14
 };
 
 /* The server's faults, by their numbers. A fault doesn't show that the touch was recorded, and after each of them the
@@ -139,10 +142,10 @@ typedef struct bovtrila_settlement {
 
 /* Why a gate's file can't be made or opened. After each but BOVTRILA_FILE_OK there is no gate, nothing was sent, and
    bovtrila_open wrote nothing. They are looked for in this order, but for BOVTRILA_FILE_DEVICE, which comes with the
-   call of the system that failed. */
+   call of the system that failed, and BOVTRILA_FILE_OLD_TAG. */
 enum bovtrila_file_cause {
     BOVTRILA_FILE_OK = 0,
-    BOVTRILA_FILE_MISUSE = 1,         /* a pointer is NULL, or there are no addresses, or too many */
+    BOVTRILA_FILE_MISUSE = 1,         /* a pointer is NULL, or there are too many addresses */
     BOVTRILA_FILE_BAD_CAPACITY = 2,   /* of bovtrila_create: it isn't from 1 to BOVTRILA_CAPACITY_LIMIT */
     BOVTRILA_FILE_MEMORY = 3,         /* memory was refused */
     BOVTRILA_FILE_NO_ADDRESS = 4,     /* address `place` is no HOST:PORT, or the host isn't known; `error` is that of
@@ -158,7 +161,10 @@ enum bovtrila_file_cause {
     BOVTRILA_FILE_BAD_LIMIT = 11,     /* the capacity or the number of cards in its header can't be */
     BOVTRILA_FILE_ANOTHER = 12,       /* the file of another gate, or a station's journal */
     BOVTRILA_FILE_DAMAGED = 13,       /* slot `place` (from 0) is cut short, or holds no touch */
-    BOVTRILA_FILE_FOREIGN = 14        /* the touch in slot `place` isn't this gate's of the number `place` + 1 */
+    BOVTRILA_FILE_FOREIGN = 14,       /* the touch in slot `place` isn't this gate's of the number `place` + 1 */
+    BOVTRILA_FILE_OLD_TAG = 15        /* this gate's file, made by a version of this library before 1.1. It is looked for
+                                         before BOVTRILA_FILE_ANOTHER. docs/GATE_LIBRARY.md, "To change an old file
+                                         over", has the commands that make it a file of today with the same touches */
 };
 
 typedef struct bovtrila_file {
@@ -169,6 +175,7 @@ typedef struct bovtrila_file {
 
 #define BOVTRILA_CAPACITY_LIMIT 1000000u /* touches of one file, 64 bytes each */
 #define BOVTRILA_ADDRESSES 8u            /* addresses of one gate */
+#define BOVTRILA_FRAME_SIZE 53u          /* the most bytes of a touch's frame */
 
 /* How a gate is opened. Set all to 0 first, as by `bovtrila_options options = {0}`; times are in milliseconds, and one
    that is 0 is the time in brackets. */
@@ -178,7 +185,8 @@ typedef struct bovtrila_options {
     const char *const *addresses; /* texts "HOST:PORT" or "[HOST]:PORT", tried in turn. All have to be servers of one
                                      station, of which one at a time has its journal. A host name stands for all that
                                      it has; what is beyond BOVTRILA_ADDRESSES in all is left out */
-    size_t address_count;
+    size_t address_count;         /* 0 for a gate with lines of its own (bovtrila_ask): the calls that send keep their
+                                     touch then, and answer BOVTRILA_NO_ANSWER at once */
     uint32_t limit;               /* how long a call may take, beside what the disk takes (5000) */
     uint32_t patience;            /* how long a connection or an answer is waited for before the next try (2000) */
     uint32_t backoff_first;       /* the wait before a touch is sent again to the same address (200): twice as long each
@@ -222,6 +230,24 @@ bovtrila_answer bovtrila_revise(bovtrila_gate *gate, const uint8_t digest[32], i
    bovtrila_waiting before it, or bovtrila_settled behind it, tells which touch it is. It keeps to the backoff: called
    in a loop it loads neither the network nor the server. */
 bovtrila_answer bovtrila_resend(bovtrila_gate *gate) BOVTRILA_LOOK_AT;
+
+/* The three calls below are for a gate with lines of its own, as through TLS or in a loop of events. They connect to
+   nothing, and wait for nothing but the disk. The rules are the same: the caller sends the frame that waits, over
+   another connection after each but a whole answer, and waits between repeats (docs/PROTOCOL.md, "When to repeat, and
+   how often").
+
+   bovtrila_ask keeps a touch, whose `number` isn't looked at: BOVTRILA_KEPT with its number, once it is synced, or
+   BOVTRILA_EARLIER_WAITS, BOVTRILA_NO_ROOM, BOVTRILA_STOPPED, BOVTRILA_DEVICE or BOVTRILA_MISUSE. */
+bovtrila_answer bovtrila_ask(bovtrila_gate *gate, const bovtrila_touch *touch) BOVTRILA_LOOK_AT;
+
+/* Writes the frame of the touch that waits: how many bytes it has, 0 where none waits. They are the same each time. */
+size_t bovtrila_frame(const bovtrila_gate *gate, uint8_t frame[BOVTRILA_FRAME_SIZE]);
+
+/* Hears what came over a connection since the frame was sent over it: all of it, from its first byte on. An answer is as
+   that of bovtrila_touch_in. BOVTRILA_NO_ANSWER says that the bytes begin one: call again with more behind them, or give
+   the connection up. Give it up after BOVTRILA_STRAY too, and where more came than the answer: a reply has 22 bytes, a
+   fault 10. */
+bovtrila_answer bovtrila_hear(bovtrila_gate *gate, const uint8_t *bytes, size_t size) BOVTRILA_LOOK_AT;
 
 /* What a card holds: BOVTRILA_SHOWN, or a cause. It changes nothing, and neither writes nor sends what waits. It has
    every touch that was settled over the same connection. */

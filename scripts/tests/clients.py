@@ -29,7 +29,7 @@ WARNINGS = ["-std=c99", "-Wall", "-Wextra", "-Wpedantic", "-Werror"]
 # A folder in memory, where there is one: each touch syncs the gate's file twice.
 FAST = "/dev/shm" if os.access("/dev/shm", os.W_OK) else None
 # Times of a gate in milliseconds: of a call, of an answer, of the first and of the longest wait before a repeat.
-PATIENT, QUICK = (20_000, 2_000, 1, 4), (20_000, 150, 1, 4)
+PATIENT, QUICK = (20_000, 10_000, 1, 4), (20_000, 150, 1, 4)
 
 
 def there(*names):
@@ -212,9 +212,14 @@ class Careful:
         return [self.replies.get(number) for number in range(1, len(self.frames) + 1)]
 
 
-def tag(gate):
-    """What stands in a gate's file where a station's journal has a digest (docs/GATE_LIBRARY.md)."""
-    return b"Bovtrila: the touches of gate " + struct.pack(">H", gate)
+def tag(gate, text=b"touches of one gate, by number"):
+    """What stands in a gate's file where a station's journal has a digest (docs/JOURNAL.md, "A gate's file")."""
+    return text + struct.pack(">H", gate)
+
+
+def old_tag(gate):
+    """What stood there before version 1.1 of the library (docs/GATE_LIBRARY.md)."""
+    return tag(gate, b"Bovtrila: the touches of gate ")
 
 
 def file_of(frames, capacity, gate):
@@ -232,6 +237,8 @@ def reading(content, gate):
     capacity, cards = struct.unpack(">II", content[9:17])
     if not 1 <= capacity <= 1_000_000 or not 1 <= cards <= 100_000:
         return CAUSE["BAD_LIMIT"], 0, []
+    if cards == 1 and content[17:49] == old_tag(gate):
+        return CAUSE["OLD_TAG"], 0, []
     if cards != 1 or content[17:49] != tag(gate):
         return CAUSE["ANOTHER"], 0, []
     touches = []

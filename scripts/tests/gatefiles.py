@@ -12,7 +12,7 @@ import harness
 import model
 import wire
 from clients import CAUSE, FIRST, RESULT, SOURCE, TESTS, Careful, GateTest, Gone, Told, journey, replied_to
-from harness import EXAMPLE, TOP
+from harness import EXAMPLE, TIME, TOP
 
 
 class Files(GateTest):
@@ -27,8 +27,8 @@ class Files(GateTest):
     def test_a_file_is_made_by_the_bytes_of_the_page(self):
         self.assertEqual(self.create(258, 5), [CAUSE["OK"], 0, 0])
         self.assertEqual(self.file.read_bytes(), clients.file_of([], 5, 258))
-        page = (TOP / "docs" / "GATE_LIBRARY.md").read_text()
-        rows = re.findall(r"(?m)^([0-9a-f]{4})  ((?:[0-9a-f]{2} ?)+)", page)
+        section = (TOP / "docs" / "JOURNAL.md").read_text().split("## A gate's file\n")[1].split("\n## ")[0]
+        rows = re.findall(r"(?m)^([0-9a-f]{4})  ((?:[0-9a-f]{2} ?)+)", section)
         shown = dict((int(at, 16), bytes.fromhex(digits)) for at, digits in rows)
         content = clients.file_of([FIRST[0]], 100_000, 7)
         self.assertGreater(len(shown), 4)
@@ -51,14 +51,19 @@ class Files(GateTest):
     def test_each_cause_of_an_opening_is_told(self):
         whole = clients.file_of(self.frames, 10, 7)
         other = model.header_of(10, 1, bytes(32)) + bytes(1)
+        alike = model.header_of(10, 1, clients.tag(7, bytes(30))) + bytes(1)
         for name, content, wanted in (("empty", b"", "NOT_A_JOURNAL"), ("64 bytes", whole[:64], "NOT_A_JOURNAL"),
                                       ("text", b"gate 7\n" * 20, "NOT_A_JOURNAL"),
                                       ("version 1", whole[:8] + b"1" + whole[9:], "OTHER_VERSION"),
                                       ("another digest", other, "ANOTHER"),
+                                      ("a digest that ends as the tag", alike, "ANOTHER"),
                                       ("ten cards", model.header_of(10, 10, clients.tag(7)) + bytes(1), "ANOTHER"),
                                       ("no cards", model.header_of(10, 0, clients.tag(7)) + bytes(1), "BAD_LIMIT"),
                                       ("no capacity", model.header_of(0, 1, clients.tag(7)) + bytes(1), "BAD_LIMIT"),
                                       ("another gate", clients.file_of([], 10, 8), "ANOTHER"),
+                                      ("an old file", self.old(7), "OLD_TAG"),
+                                      ("another gate's old file", self.old(8), "ANOTHER"),
+                                      ("an old file of ten cards", self.old(7, 10), "ANOTHER"),
                                       ("numbers from 0", clients.file_of(
                                           [model.touch(model.ISSUE, 7, 0, 1, 0)], 10, 7), "FOREIGN"),
                                       ("another gate's touch", clients.file_of(
@@ -77,6 +82,24 @@ class Files(GateTest):
         self.file.rmdir()
         os.mkfifo(self.file)
         self.assertEqual(self.opening()[0], CAUSE["DEVICE"])
+
+    def old(self, gate, cards=1):
+        """The file of a gate as the library wrote it before version 1.1."""
+        return model.journal_of(self.frames, 10, cards, clients.old_tag(gate))
+
+    def test_an_old_file_is_changed_over_by_the_commands_of_the_page(self):
+        page = (TOP / "docs" / "GATE_LIBRARY.md").read_text()
+        commands = re.search(r"### To change an old file over.*?```\n(.*?)```", page, re.S)[1]
+        self.file = self.folder / "gate.file"
+        self.write(self.old(7))
+        self.assertEqual(self.opening(), [CAUSE["OLD_TAG"], 0, 0])
+        self.assertEqual(self.file.read_bytes(), self.old(7))
+        done = subprocess.run(["sh", "-e"], input=commands, text=True, capture_output=True, cwd=self.folder, timeout=TIME)
+        self.assertEqual(done.returncode, 0, done.stderr)
+        self.assertEqual(self.file.read_bytes(), clients.file_of(self.frames, 10, 7))
+        self.assertEqual([file.name for file in self.folder.iterdir()], ["gate.file"])
+        with self.open("127.0.0.1:1") as asker:
+            self.assertEqual((asker.opened, asker.ask("waiting")[1]), ([CAUSE["OK"], 0, 0], len(self.frames)))
 
     def test_a_station_s_journal_is_another_file_and_a_server_refuses_a_gate_s(self):
         self.serve().kill()
@@ -211,6 +234,35 @@ class Power(GateTest):
                 with self.subTest(write=write, cut=cut):
                     self.check_cut(write, cut)
 
+    def check_killed(self, number, is_making):
+        """A making, or a gate's run, that is killed before a call of the system: whether there was such a call."""
+        self.file.unlink(missing_ok=True)
+        server, asking = self.planted(), Careful(self.frames)
+        log = clients.Log(clients.program("calls"), KILL=number)
+        told = self.create(**(log.options() if is_making else {}))
+        is_killed = told == [None, 0, 9]
+        if is_killed and not self.file.exists() or clients.reading(self.file.read_bytes(), 7)[0] != CAUSE["OK"]:
+            self.file.unlink(missing_ok=True)
+            assert self.create()[0] == CAUSE["OK"]
+        if not is_making:
+            try:
+                with self.open(server.text, **log.options()) as asker:
+                    asking.run(asker)
+            except Gone as gone:
+                is_killed = str(gone) in ("the gate ended by status 9", "the gate takes no line")
+                assert is_killed, gone
+        self.check_end(server, asking)
+        return is_killed
+
+    def test_a_gate_that_is_killed_before_each_call_goes_on(self):
+        for is_making, least in ((True, 12), (False, 30)):
+            for number in range(1, 200):
+                with self.subTest(number=number, is_making=is_making):
+                    is_killed = self.check_killed(number, is_making)
+                if not is_killed:
+                    break
+            self.assertGreater(number, least)
+
     def check_counting(self):
         """Touches over three openings."""
         self.create()
@@ -285,6 +337,206 @@ class Power(GateTest):
 
     def test_a_torn_write_leaves_what_was_before(self):
         self.assertGreater(self.check_torn(), 200)
+
+
+class Steps(GateTest):
+    """A gate with lines of its own: a touch is kept, its frame is handed out, and what came is heard."""
+
+    def keep(self, asker, frame):
+        return asker.ask(f"keep-{clients.act_of(frame)}")
+
+    def frame_of(self, asker):
+        """The frame that waits, or no bytes."""
+        asker.write("frame")
+        size, digits = asker.process.stdout.readline().rstrip("\n").split(" ")
+        self.assertEqual(2 * int(size), len(digits))
+        return bytes.fromhex(digits)
+
+    def test_touches_over_lines_of_the_gate_s_own(self):
+        revision = model.touch(model.REVISE, 7, 5, 0, bytes(range(32)), -3, 1736149800)
+        frames, station = [*FIRST, revision], wire.vectors()[0].model()
+        self.create()
+        with self.open([]) as asker:
+            self.assertEqual(asker.opened, [CAUSE["OK"], 0, 0])
+            self.assertEqual(self.frame_of(asker), b"")
+            for place, frame in enumerate(frames):
+                self.assertEqual(self.keep(asker, frame), [RESULT["KEPT"], place + 1, 0, 0, 0, 0])
+                self.assertEqual(self.file.read_bytes(), clients.file_of(frames[:place + 1], 1000, 7))
+                self.assertEqual(asker.ask("waiting")[1], place + 1)
+                # As often as it is asked for.
+                self.assertEqual([self.frame_of(asker) for _ in range(2)], [frame, frame])
+                answer = station.answer(frame)
+                told = clients.told_by(answer, place + 1)
+                for size in range(len(answer)):
+                    if answer[2] == model.REPLY:
+                        self.assertEqual(asker.ask(f"hear {answer[:size].hex()}"),
+                                         [RESULT["NO_ANSWER"], place + 1, 0, 0, 0, 0])
+                self.assertEqual(asker.ask(f"hear {answer.hex()}"), told)
+                self.assertEqual(asker.ask("waiting") == [], answer[2] == model.REPLY)
+            # The example's station has no table for the revision: that is a fault, and the touch waits.
+            self.assertEqual((told[0], self.frame_of(asker)), (RESULT["FAULT"], revision))
+        with self.open([]) as asker:
+            self.assertEqual(self.frame_of(asker), revision)
+
+    def test_what_is_no_reply(self):
+        self.create()
+        reply = replied_to(FIRST[0])
+        with self.open([]) as asker:
+            self.keep(asker, FIRST[0])
+            for answer, wanted in ((model.fault(2, 7, 1), [RESULT["FAULT"], 1, 0, 2, 0, 0]),
+                                   (model.fault(1), [RESULT["FAULT"], 1, 0, 1, 0, 0]),
+                                   (model.fault(3, 7, 2), [RESULT["STRAY"], 1, 0, 0, 0, 0]),
+                                   (replied_to(FIRST[1]), [RESULT["STRAY"], 1, 0, 0, 0, 0]),
+                                   (b"\x01", [RESULT["STRAY"], 1, 0, 0, 0, 0]),
+                                   (b"", [RESULT["NO_ANSWER"], 1, 0, 0, 0, 0])):
+                with self.subTest(answer.hex()):
+                    self.assertEqual(asker.ask(f"hear {answer.hex()}"), wanted)
+                    self.assertEqual(self.frame_of(asker), FIRST[0])
+            # The first answer counts, whatever stands behind it.
+            self.assertEqual(asker.ask(f"hear {(reply + reply).hex()}"), clients.told_by(reply, 1))
+            self.assertEqual(asker.ask(f"hear {reply.hex()}"), [RESULT["NONE_WAITS"], 0, 0, 0, 0, 0])
+            self.assertEqual(asker.ask("settled"), [4, 1, 1, 1736149800, 0, 0, 0, "00" * 32])
+            self.assertEqual(asker.line(), clients.told_by(reply, 1))
+
+    def test_a_second_touch_is_not_kept(self):
+        self.create(capacity=2)
+        with self.open([]) as asker:
+            self.keep(asker, FIRST[0])
+            before = self.file.read_bytes()
+            self.assertEqual(self.keep(asker, FIRST[1]), [RESULT["EARLIER_WAITS"], 0, 0, 0, 0, 0])
+            self.assertEqual((self.file.read_bytes(), self.frame_of(asker)), (before, FIRST[0]))
+            asker.ask(f"hear {replied_to(FIRST[0]).hex()}")
+            self.assertEqual(asker.ask("keep-none 1 1"), [RESULT["MISUSE"], 0, 0, 0, 0, 0])
+            self.assertEqual(self.keep(asker, FIRST[1])[:2], [RESULT["KEPT"], 2])
+            asker.ask(f"hear {replied_to(FIRST[1]).hex()}")
+            self.assertEqual(self.keep(asker, FIRST[2]), [RESULT["NO_ROOM"], 0, 0, 0, 0, 0])
+
+    def test_calls_that_send_keep_and_answer_at_once(self):
+        self.create()
+        with self.open([], times=(60_000, 60_000, 60_000, 60_000)) as asker:
+            self.assertEqual(asker.ask(clients.act_of(FIRST[0])), [RESULT["NO_ANSWER"], 1, 0, 0, 0, 0])
+            self.assertEqual(asker.ask("resend"), [RESULT["NO_ANSWER"], 1, 0, 0, 0, 0])
+            self.assertEqual(asker.ask("enquire 1")[0], RESULT["NO_ANSWER"])
+            self.assertEqual(asker.ask(clients.act_of(FIRST[1]))[0], RESULT["EARLIER_WAITS"])
+            self.assertEqual(self.frame_of(asker), FIRST[0])
+        self.assertEqual(self.file.read_bytes(), clients.file_of(FIRST[:1], 1000, 7))
+
+    def test_each_call_on_the_file_fails_in_turn(self):
+        log = clients.Log(clients.program("calls"))
+        self.create()
+        with self.open([], **log.options()) as asker:
+            self.keep(asker, FIRST[0])
+        numbers = sorted(log.numbers("pwrite") + log.numbers("fdatasync"))
+        self.assertEqual(len(numbers), 4)
+        for place, number in enumerate(numbers):
+            with self.subTest(number):
+                self.file.unlink()
+                self.create()
+                refusing = clients.Log(clients.program("calls"), REFUSE=number)
+                with self.open([], **refusing.options()) as asker:
+                    self.assertEqual(self.keep(asker, FIRST[0]), [RESULT["DEVICE"], 1, 0, 0, 0, 0])
+                    self.assertEqual((self.frame_of(asker), asker.ask("error")), (b"", [5]))
+                    for line in (f"keep-{clients.act_of(FIRST[0])}", f"hear {replied_to(FIRST[0]).hex()}"):
+                        self.assertEqual(asker.ask(line), [RESULT["STOPPED"], 0, 0, 0, 0, 0])
+                # The mark was written where its sync alone failed.
+                with self.open([]) as asker:
+                    self.assertEqual(self.frame_of(asker), FIRST[0] if place == 3 else b"")
+
+
+class Shared(GateTest):
+    """One file, used by the program over the crate gate_client and by the library in turn."""
+
+    SENDER = harness.CRATES / "gate_send" / "out" / "gate_send"
+
+    def setUp(self):
+        super().setUp()
+        if not self.SENDER.is_file():
+            self.skipTest("gate_send: not built")
+
+    def send(self, server, frames, *more):
+        """What gate_send prints of these touches, and of what waited."""
+        lines = "".join(f"at {each[-1]} {' '.join(each[:-1])}\n" for each in (clients.act_of(one).split() for one in frames))
+        words = [self.SENDER, "--gate", "7", "--file", self.file, "--tries", "3", *more, server.text]
+        done = subprocess.run(words, input=lines, capture_output=True, text=True, timeout=TIME)
+        self.assertEqual((done.returncode, done.stderr), (0, ""))
+        return done.stdout.split("\n")[:-1]
+
+    @staticmethod
+    def line_of(frame, answer):
+        """The line of a touch and its answer: the fields of a history's row from the gate on."""
+        kind, gate, number, card, *act = struct.unpack(model.FORMS[frame[2]], frame[2:])
+        where, pence = (act[0] if kind == one else "" for one in (kind if kind in (model.ENTER, model.LEAVE) else None,
+                                                                  model.TOP_UP))
+        verdict, change, balance = struct.unpack(">Biq", answer[9:])
+        return f"{gate},{number},{card},{model.ACTS[kind]},{where},{pence},{model.VERDICTS[verdict]},{change},{balance}"
+
+    def check_turns(self, frames, first):
+        """Touches that the two ask in turn, one each, and then the file, the history and each answer."""
+        server, station = self.planted(), wire.vectors()[0].model()
+        answers = [station.answer(frame) for frame in frames]
+        lines = [self.line_of(frame, answer) for frame, answer in zip(frames, answers)]
+        if first == "library":
+            self.assertEqual(self.create(7, 1000)[0], CAUSE["OK"])
+        for place, frame in enumerate(frames):
+            if (place % 2 == 0) == (first == "library"):
+                with self.open(server.text) as asker:
+                    waiting = asker.ask("waiting")
+                    self.assertEqual(waiting[1] if waiting else 0, place)
+                    if place:
+                        self.assertEqual(asker.ask("resend"), clients.told_by(answers[place - 1], place))
+                    self.assertEqual(asker.ask(clients.act_of(frame)), clients.told_by(answers[place], place + 1))
+            else:
+                new = ["--new", "--capacity", "1000"] if place == 0 else []
+                self.assertEqual(self.send(server, [frame], *new), lines[max(place - 1, 0):place + 1])
+            self.assertEqual(self.file.read_bytes(), clients.file_of(frames[:place + 1], 1000, 7))
+        self.assertEqual(server.station.history, frames)
+
+    def test_each_goes_on_with_the_other_s_file(self):
+        for first in ("library", "gate_send"):
+            with self.subTest(first):
+                self.file.unlink(missing_ok=True)
+                self.check_turns(journey(7, [1]), first)
+
+    def test_what_the_library_left_waiting_is_sent_by_gate_send(self):
+        frames, server = FIRST[:3], self.planted()
+        answers = [server.station.answer(frame) for frame in frames[:2]]
+        self.create()
+        with self.open(Told(self, [*answers, model.fault(4, 7, 3)]).text) as asker:
+            Careful(frames[:2]).run(asker)
+            self.assertEqual(asker.ask(clients.act_of(frames[2])), [RESULT["FAULT"], 3, 0, 4, 0, 0])
+        self.assertEqual(self.file.read_bytes(), clients.file_of(frames, 1000, 7))
+        said = self.send(server, [])
+        self.assertEqual(said, [self.line_of(frames[2], server.station.answer(frames[2]))])
+        self.assertEqual(server.station.history, frames)
+
+    def test_what_gate_send_left_waiting_is_sent_by_the_library(self):
+        with socket.create_server(("127.0.0.1", 0)) as free:
+            nobody = f"127.0.0.1:{free.getsockname()[1]}"
+        words = [self.SENDER, "--gate", "7", "--file", self.file, "--new", "--capacity", "1000", "--tries", "1", nobody]
+        done = subprocess.run(words, input="at 1736149800 issue 1\n", capture_output=True, text=True, timeout=TIME)
+        self.assertEqual((done.returncode, done.stdout), (1, ""))
+        self.assertEqual(self.file.read_bytes(), clients.file_of(FIRST[:1], 1000, 7))
+        server, asking = self.planted(), Careful(FIRST)
+        with self.open(server.text) as asker:
+            asking.run(asker)
+        self.assertEqual((server.station.history, asking.told()), (FIRST, clients.worked_out(FIRST)))
+
+    def test_one_of_them_has_it_at_a_time(self):
+        self.create()
+        words = [self.SENDER, "--gate", "7", "--file", self.file, "127.0.0.1:1"]
+        with self.open("127.0.0.1:1") as asker:
+            self.assertEqual(asker.opened[0], CAUSE["OK"])
+            done = subprocess.run(words, input="", capture_output=True, text=True, timeout=TIME)
+            self.assertEqual((done.returncode, done.stdout), (1, ""))
+        # It waits for a line of standard input, with the file open.
+        sender = subprocess.Popen(words, stdin=subprocess.PIPE, stdout=subprocess.PIPE, stderr=subprocess.PIPE)
+        self.addCleanup(sender.communicate)
+        self.addCleanup(sender.kill)
+
+        def is_held():
+            with self.open("127.0.0.1:1") as asker:
+                return asker.opened[0] == CAUSE["IN_USE"]
+        self.assertTrue(clients.wait_for(is_held))
 
 
 class Refused(GateTest):

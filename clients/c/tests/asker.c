@@ -8,6 +8,7 @@
 
    A line asks one thing: "in CARD STATION MOMENT", "out CARD STATION MOMENT", "top-up CARD PENCE MOMENT",
    "issue CARD MOMENT", "revise DIGEST DAY MOMENT", "enquire CARD", "resend", "waiting", "settled", "room", "error".
+   With lines of its own: "keep-in CARD STATION MOMENT" and so on for the other touches, "frame", and "hear DIGITS".
    Each is answered by a line of numbers: of a touch "RESULT NUMBER VERDICT FAULT CHANGE BALANCE", of an enquiry "RESULT
    STATE FAULT BALANCE FRONT". What create and open came to is a line "CAUSE PLACE ERROR". */
 #include <stdio.h>
@@ -49,14 +50,74 @@ static uint32_t number(const char *word)
     return (uint32_t)strtoul(word, NULL, 10);
 }
 
+/* The bytes of these digits: how many there are. */
+static size_t bytes_of(const char *digits, uint8_t *into, size_t most)
+{
+    unsigned byte;
+    size_t count = 0;
+
+    while (count < most && sscanf(digits + 2 * count, "%2x", &byte) == 1)
+        into[count++] = (uint8_t)byte;
+    return count;
+}
+
 static bovtrila_answer revise(bovtrila_gate *gate, const char *digits, const char *day, const char *moment)
 {
-    uint8_t digest[32];
-    unsigned byte;
+    uint8_t digest[32] = {0};
 
-    for (size_t i = 0; i < sizeof digest; i++)
-        digest[i] = sscanf(digits + 2 * i, "%2x", &byte) == 1 ? (uint8_t)byte : 0;
+    bytes_of(digits, digest, sizeof digest);
     return bovtrila_revise(gate, digest, (int32_t)strtol(day, NULL, 10), number(moment));
+}
+
+/* Keeps the touch that a line names, with a number that isn't looked at. */
+static bovtrila_answer keep(bovtrila_gate *gate, const char *act, char **words)
+{
+    bovtrila_touch touch = {0};
+    size_t at = 2;
+
+    touch.number = 99;
+    touch.card = number(words[1]);
+    if (strcmp(act, "in") == 0 || strcmp(act, "out") == 0) {
+        touch.kind = strcmp(act, "in") == 0 ? BOVTRILA_TOUCH_IN : BOVTRILA_TOUCH_OUT;
+        touch.station = (uint16_t)number(words[at++]);
+    } else if (strcmp(act, "top-up") == 0) {
+        touch.kind = BOVTRILA_TOP_UP;
+        touch.pence = number(words[at++]);
+    } else if (strcmp(act, "issue") == 0) {
+        touch.kind = BOVTRILA_ISSUE;
+    } else if (strcmp(act, "revise") == 0) {
+        touch.kind = BOVTRILA_REVISION;
+        touch.card = 0;
+        bytes_of(words[1], touch.digest, sizeof touch.digest);
+        touch.day = (int32_t)strtol(words[at++], NULL, 10);
+    }
+    touch.moment = number(words[at]);
+    return bovtrila_ask(gate, &touch);
+}
+
+/* A line of the frame that waits, and one of what some bytes are heard as. */
+static void tell_frame(const bovtrila_gate *gate)
+{
+    uint8_t frame[BOVTRILA_FRAME_SIZE];
+    size_t size = bovtrila_frame(gate, frame);
+
+    printf("%lu ", (unsigned long)size);
+    for (size_t i = 0; i < size; i++)
+        printf("%02x", frame[i]);
+    printf("\n");
+}
+
+static bovtrila_answer hear(bovtrila_gate *gate, const char *digits)
+{
+    /* So many bytes to their end, for the sanitizers. */
+    size_t size = strlen(digits) / 2;
+    uint8_t *bytes = malloc(size + (size == 0));
+    bovtrila_answer answer = {BOVTRILA_NOTHING, 0, 0, 0, 0, 0};
+
+    if (bytes != NULL)
+        answer = bovtrila_hear(gate, bytes, bytes_of(digits, bytes, size));
+    free(bytes);
+    return answer;
 }
 
 /* Every call with NULL: the results in a line. */
@@ -72,8 +133,10 @@ static void ask_nothing(void)
            bovtrila_resend(NULL).result);
     printf("%d %d %d ", bovtrila_enquire(NULL, 1).result, bovtrila_create(NULL, 1, 1).cause,
            bovtrila_open(&options, &gate).cause);
-    printf("%d %d %d %lu %d\n", bovtrila_open(&options, NULL).cause, bovtrila_waiting(NULL, NULL),
+    printf("%d %d %d %lu %d ", bovtrila_open(&options, NULL).cause, bovtrila_waiting(NULL, NULL),
            bovtrila_settled(NULL).answer.result, (unsigned long)bovtrila_room(NULL), bovtrila_last_error(NULL));
+    printf("%d %lu %d\n", bovtrila_ask(NULL, NULL).result, (unsigned long)bovtrila_frame(NULL, NULL),
+           bovtrila_hear(NULL, NULL, 0).result);
 }
 
 /* The words for each code: a line each. */
@@ -103,6 +166,12 @@ static void ask(bovtrila_gate *gate, char **words)
         tell_holding(bovtrila_enquire(gate, number(words[1])));
     else if (strcmp(words[0], "resend") == 0)
         tell(bovtrila_resend(gate));
+    else if (strncmp(words[0], "keep-", 5) == 0)
+        tell(keep(gate, words[0] + 5, words));
+    else if (strcmp(words[0], "frame") == 0)
+        tell_frame(gate);
+    else if (strcmp(words[0], "hear") == 0)
+        tell(hear(gate, words[1]));
     else if (strcmp(words[0], "room") == 0)
         printf("%lu\n", (unsigned long)bovtrila_room(gate));
     else if (strcmp(words[0], "error") == 0)

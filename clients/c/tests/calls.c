@@ -6,7 +6,8 @@
                          its name
    CALLS_SHORT=1         reads, writes and what a connection moves, one byte at a time
    CALLS_INTERRUPT=1     each call that may be interrupted answers EINTR every other time
-   CALLS_CUT=N:K         write N moves K bytes, and the process ends by status 9 */
+   CALLS_CUT=N:K         write N moves K bytes, and the process ends by status 9
+   CALLS_KILL=N          the process ends by status 9 before call N */
 #define _GNU_SOURCE
 #include <dlfcn.h>
 #include <errno.h>
@@ -25,7 +26,7 @@ extern void *__libc_malloc(size_t size);
 extern void *__libc_calloc(size_t count, size_t size);
 extern void *__libc_realloc(void *old, size_t size);
 
-static int log_to = -1, refuse, onward, is_short, interrupts, cut_call, cut_bytes;
+static int log_to = -1, refuse, onward, is_short, interrupts, cut_call, cut_bytes, kill_call;
 static int calls, writes, turn;
 static const char *refused_name;
 
@@ -44,6 +45,7 @@ __attribute__((constructor)) static void begin(void)
     onward = number_of("CALLS_ONWARD");
     is_short = number_of("CALLS_SHORT");
     interrupts = number_of("CALLS_INTERRUPT");
+    kill_call = number_of("CALLS_KILL");
     if (cut != NULL && sscanf(cut, "%d:%d", &cut_call, &cut_bytes) != 2)
         cut_call = 0;
     log_to = getenv("CALLS_LOG") == NULL ? -1 : number_of("CALLS_LOG");
@@ -68,6 +70,8 @@ static int is_refused(const char *name, int error)
 {
     int at = ++calls;
 
+    if (at == kill_call)
+        _exit(9);
     if (refuse != 0 && (at == refuse || (onward && refused_name != NULL && strcmp(name, refused_name) == 0))) {
         refused_name = name;
         note("refused", at, NULL, 0);
