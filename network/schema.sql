@@ -63,7 +63,7 @@ CREATE TABLE revisions (
 );
 
 -- A row for each touch, with its reply. day is the fare day; of a revision, which is of no fare day, the UTC date of its
--- moment. station_number is the number that the fare tables give the station where the card was touched.
+-- moment, and its card is 0. station_number is the number that the fare tables give the station where the card was touched.
 CREATE TABLE touches (
     journal integer NOT NULL REFERENCES journals,
     place integer NOT NULL CHECK (place >= 0),

@@ -13,13 +13,13 @@ NATURAL, WHOLE, DATE = "0|[1-9][0-9]{0,9}", "0|-?[1-9][0-9]{0,17}", "[0-9]{4}-[0
 # What each field of a row looks like. Only a revision's day may be a number, or lie before the year 0.
 FIELDS = {"place": NATURAL, "moment": f"{DATE}T[0-9]{{2}}:[0-9]{{2}}:[0-9]{{2}}Z",
           "day": f"{DATE}|-[0-9]{{6}}-[0-9]{{2}}-[0-9]{{2}}|{WHOLE}", "gate": NATURAL, "number": NATURAL,
-          "card": NATURAL, "act": "in|out|top-up|issue|revision", "station": f"{NATURAL}|[0-9a-f]{{64}}|",
+          "card": f"{NATURAL}|", "act": "in|out|top-up|issue|revision", "station": f"{NATURAL}|[0-9a-f]{{64}}|",
           "pence": f"{NATURAL}|", "verdict": "[A-Za-z]+", "change": WHOLE, "balance": WHOLE}
 ROW = re.compile(",".join(f"({form})" for form in FIELDS.values()))
 Row = collections.namedtuple("Row", FIELDS)
-# Whether the fields station and pence are filled, by act.
-FILLED = {"in": (True, False), "out": (True, False), "top-up": (False, True), "issue": (False, False),
-          "revision": (True, False)}
+# Whether the fields card, station and pence are filled, by act.
+FILLED = {"in": (True, True, False), "out": (True, True, False), "top-up": (True, False, True),
+          "issue": (True, False, False), "revision": (False, True, False)}
 # The verdicts of docs/FARES.md by act: those that accept it, and those that refuse it.
 ACCEPTED = {"in": ("Entered", "EnteredContinued", "EnteredOverOpen"),
             "out": ("Exited", "ExitedUnstarted", "ExitedLate"), "top-up": ("ToppedUp",),
@@ -48,7 +48,7 @@ def unquoted(text):
 
 
 def row_of(text):
-    """The row that a line has; its moment in seconds since 1970-01-01 00:00:00 UTC."""
+    """The row that a line has; its moment in seconds since 1970-01-01 00:00:00 UTC. A revision has no card."""
     match = ROW.fullmatch(text)
     if not match:
         fields = text.split(",")
@@ -64,16 +64,18 @@ def row_of(text):
             datetime.date.fromisoformat(day)
     except ValueError:
         raise Wrong(f"the calendar has no moment '{moment}' or no day '{day}'") from None
-    row = Row(int(place), seconds, day, int(gate), int(number), int(card), act, station, pence, verdict, int(change),
-              int(balance))
+    row = Row(int(place), seconds, day, int(gate), int(number), int(card) if card else None, act, station, pence, verdict,
+              int(change), int(balance))
     check_row(row)
     return row
 
 
 def check_row(row):
     """Whether the fields of a row go together."""
-    if (row.station != "", row.pence != "") != FILLED[row.act] or (len(row.station) == 64) != (row.act == "revision"):
-        raise Wrong(f"station '{row.station[:12]}' and pence '{row.pence}' don't go with {row.act}")
+    is_filled = row.card is not None, row.station != "", row.pence != ""
+    if is_filled != FILLED[row.act] or (len(row.station) == 64) != (row.act == "revision"):
+        card = "" if row.card is None else row.card
+        raise Wrong(f"card '{card}', station '{row.station[:12]}' and pence '{row.pence}' don't go with {row.act}")
     accepted = row.verdict in ACCEPTED[row.act]
     if not accepted and row.verdict not in REFUSED[row.act]:
         raise Wrong(f"the verdict {row.verdict} is none of {row.act}")

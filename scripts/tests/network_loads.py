@@ -83,7 +83,8 @@ class Loads:
         load("birch-1", "end", base)
         old = everything(base)
         done = load("birch-1", "friday", base)
-        self.assertEqual((done.returncode, done.stderr.split(": ")[-1]), (1, "fault seal 1 Shorter\n"))
+        self.assertEqual(done.returncode, 1)
+        self.assertRegex(done.stderr, r": fault seal 1 Shorter \d+, not \d+\n$")
         self.assertEqual(everything(base), old)
 
     def test_open_slots_behind_the_end_are_noted(self):

@@ -7,7 +7,8 @@ use Rattle.tap_journal.specs.declared.fault.JournalFault.TheVariants.{Memory as 
 use Rattle.tap_journal.specs.Alone.{HasCauseAlone}
 use Rattle.fare_table.specs.Fares.{digest_of}
 use Rattle.journal_audit.specs.declared.fault.AuditFault.{AuditFault}
-use Rattle.journal_audit.specs.declared.fault.AuditFault.TheVariants.{Memory, Write, Journal, Seal, Place, Balance}
+use Rattle.journal_audit.specs.declared.fault.AuditFault.TheVariants.{Memory, Write, Journal, Header as OtherHeader}
+use Rattle.journal_audit.specs.declared.fault.AuditFault.TheVariants.{Seal, Gate, Card, Place, Balance}
 use Rattle.journal_audit.specs.Balances.{HasRefused, HasWritten, HasRows, AreBalances, HasPlace, touches_before, HasRefusedTouches, AreTouchesOf, IsTooFar}
 use Rattle.journal_audit.specs.declared.balances.row.Row.{Row}
 use Rattle.journal_audit.specs.declared.balances.totals.Totals.{Totals}
@@ -39,7 +40,10 @@ pub refused-place : (tables : Tables) (at : Option ℕ) (bytes : List ℕ) (form
 refused-place tables at bytes format h touches Memory journal far = absurd far
 refused-place tables at bytes format h touches Write journal far = absurd far
 refused-place tables at bytes format h touches (Journal fault) journal far = absurd far
+refused-place tables at bytes format h touches (OtherHeader fault) journal far = absurd far
 refused-place tables at bytes format h touches (Seal fault) journal far = absurd far
+refused-place tables at bytes format h touches (Gate fault) journal far = absurd far
+refused-place tables at bytes format h touches (Card card cards) journal far = absurd far
 refused-place tables at bytes format h touches (Place count) journal far =
     record { format = format; h = h; touches = touches; place = far.0; journal = journal; named = far.1; fewer = far.2; all = far.3 }
 refused-place tables at bytes format h touches (Balance card) journal far = absurd far
@@ -53,7 +57,10 @@ refused-touches tables at bytes h touches Write journal refused = absurd refused
 refused-touches tables at bytes h touches (Journal fault) journal (inl memory) = inl memory
 refused-touches tables at bytes h touches (Journal fault) journal (inr cause) =
     inr (inr (record { h = h; touches = touches; journal = journal; not_entered = cause }))
+refused-touches tables at bytes h touches (OtherHeader fault) journal refused = absurd refused
 refused-touches tables at bytes h touches (Seal fault) journal refused = absurd refused
+refused-touches tables at bytes h touches (Gate fault) journal refused = absurd refused
+refused-touches tables at bytes h touches (Card card cards) journal refused = absurd refused
 refused-touches tables at bytes h touches (Place count) journal refused = absurd refused
 refused-touches tables at bytes h touches (Balance card) journal refused = absurd refused
 
@@ -63,7 +70,10 @@ pub refused-nothing : (tables : Tables) (at : Option ℕ) (bytes : List ℕ) (fa
 refused-nothing tables at bytes Memory refused = refl
 refused-nothing tables at bytes Write refused = absurd refused
 refused-nothing tables at bytes (Journal fault) refused = (refl, refused)
+refused-nothing tables at bytes (OtherHeader fault) refused = absurd refused
 refused-nothing tables at bytes (Seal fault) refused = absurd refused
+refused-nothing tables at bytes (Gate fault) refused = absurd refused
+refused-nothing tables at bytes (Card card cards) refused = absurd refused
 refused-nothing tables at bytes (Place count) refused = (refl, refused)
 refused-nothing tables at bytes (Balance card) refused = absurd refused
 

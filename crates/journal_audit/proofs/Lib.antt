@@ -11,3 +11,5 @@ pub mod RowLemmas
 pub mod HoldingLemmas
 pub mod AccountLemmas
 pub mod BalancesLemmas
+pub mod GateLemmas
+pub mod GateTold

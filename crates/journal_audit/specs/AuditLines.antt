@@ -11,9 +11,10 @@ use Rattle.tap_journal.specs.Layout.{Header, slot_at}
 use Rattle.tap_journal.specs.Alone.{header_found, open_behind}
 use Rattle.journal_audit.specs.declared.audit.seal.Sealed.{Sealed}
 use Rattle.journal_audit.specs.declared.audit.seal.Seal.{Seal}
+use Rattle.journal_audit.specs.declared.audit.seal.Seals.{Seals}
 use Rattle.journal_audit.specs.Finding.{finding_of, last_line}
 use Rattle.journal_audit.specs.Revisions.{history_by, revisions_text}
-use Rattle.journal_audit.specs.Seal.{told_seal}
+use Rattle.journal_audit.specs.Seal.{told_seals}
 
 -- the number of a format's version
 abbrev pub version_number : Format → ℕ
@@ -31,6 +32,13 @@ header_lines f h =
     (line_before (codes "capacity ") (decimal h.capacity)
     (line_before (codes "cards ") (decimal h.cards)
     (line_before (codes "digest ") (encode_lower h.digest) [])))
+
+-- the lines of a gate's file's format, capacity and gate
+abbrev pub gate_header_lines : Format → ℕ → ℕ → List ℕ
+gate_header_lines f capacity gate =
+    line_before (codes "version ") (decimal (version_number f))
+    (line_before (codes "capacity ") (decimal capacity)
+    (line_before (codes "gate ") (decimal gate) []))
 
 -- the lines of how many touches a journal of this capacity has and can still take, and how many
 -- bytes stand behind them
@@ -52,25 +60,33 @@ seal_text (Some sealed) =
     codes "sealed " ++ (decimal sealed.touches
     ++ (line_before (codes " ") (encode_lower sealed.digest) []))
 
--- all lines: of the header, of the counts, of what stands behind them, of the revisions and of a
--- seal, and a last one of what is found
-abbrev pub sound_text : List ℕ → List ℕ → ℕ → List ℕ → Option Sealed → List ℕ
+-- the lines of the seals: the one that a journal was held against, and the one that was made
+abbrev pub seals_text : Seals → List ℕ
+seals_text told = seal_text told.kept ++ seal_text told.made
+
+-- all lines: of the header, of the counts, of what stands behind them, of the revisions and of the
+-- seals, and a last one of what is found
+abbrev pub sound_text : List ℕ → List ℕ → ℕ → List ℕ → Seals → List ℕ
 sound_text header counts behind revisions told =
     header ++ (counts ++ (behind_text behind
-    ++ (revisions ++ (seal_text told ++ last_line (finding_of behind)))))
+    ++ (revisions ++ (seals_text told ++ last_line (finding_of behind)))))
 
 -- the lines of the header that was found in some bytes
 abbrev pub header_told : Contents → List ℕ
 header_told found = header_lines found.format (header_found found)
 
+-- the lines of the header of a gate's file that was found
+abbrev pub gate_header_told : ℕ → Contents → List ℕ
+gate_header_told gate found = gate_header_lines found.format found.capacity gate
+
 -- the lines of the counts that were found
 abbrev pub counts_told : Contents → List ℕ
 counts_told found = count_lines found.capacity (length found.touches.items) found.trailing
 
--- all that is told of what was found, with the lines of the revisions and a seal
-abbrev pub text_of_contents : Contents → List ℕ → Option Sealed → List ℕ
-text_of_contents found revisions told =
-    sound_text (header_told found) (counts_told found) found.behind revisions told
+-- all that is told of what was found, with the lines of the header, the revisions and the seals
+abbrev pub text_of_contents : List ℕ → Contents → List ℕ → Seals → List ℕ
+text_of_contents header found revisions told =
+    sound_text header (counts_told found) found.behind revisions told
 
 -- how many bytes stand behind the slots of so many touches
 abbrev pub trailing_in : Format → ℕ → List ℕ → ℕ
@@ -84,4 +100,12 @@ text_of_journal tables asked f h touches bytes =
     (count_lines h.capacity (length touches) (trailing_in f (length touches) bytes))
     (open_behind f h.capacity (length touches) bytes)
     (revisions_text (history_by tables h.cards touches) touches)
-    (told_seal asked f (length touches) bytes)
+    (told_seals asked f (length touches) bytes)
+
+-- all that is told of a gate's file, of which these are the bytes
+abbrev pub text_of_gate_file : ℕ → Seal → Format → ℕ → List Touch → List ℕ → List ℕ
+text_of_gate_file gate asked f capacity touches bytes =
+    sound_text (gate_header_lines f capacity gate)
+    (count_lines capacity (length touches) (trailing_in f (length touches) bytes))
+    (open_behind f capacity (length touches) bytes) []
+    (told_seals asked f (length touches) bytes)

@@ -15,6 +15,7 @@ use Rattle.journal_audit.specs.Audit.{IsJournal}
 use Rattle.journal_audit.specs.Touches.{digest_named, AreEntered, HasTouchCause}
 use Rattle.journal_audit.specs.declared.fault.AuditFault.{AuditFault}
 use Rattle.journal_audit.specs.declared.fault.AuditFault.TheVariants.{Memory, Write, Journal, Seal}
+use Rattle.journal_audit.specs.declared.fault.AuditFault.TheVariants.{Header as OtherHeader, Gate, Card}
 use Rattle.journal_audit.specs.declared.fault.AuditFault.TheVariants.{Place, Balance}
 use Rattle.journal_audit.specs.declared.balances.row.Row.{Row}
 use Rattle.journal_audit.specs.declared.balances.totals.Totals.{Totals}
@@ -99,7 +100,10 @@ abbrev pub IsTooFar : Option ℕ → List Touch → AuditFault → Type 0
 IsTooFar at touches Memory = ⊥
 IsTooFar at touches Write = ⊥
 IsTooFar at touches (Journal fault) = ⊥
+IsTooFar at touches (OtherHeader fault) = ⊥
 IsTooFar at touches (Seal fault) = ⊥
+IsTooFar at touches (Gate fault) = ⊥
+IsTooFar at touches (Card card cards) = ⊥
 IsTooFar at touches (Place count) = (place : ℕ) × (at ≡ Some place) × (length touches < place)
     × (count ≡ length touches)
 IsTooFar at touches (Balance card) = ⊥
@@ -110,7 +114,10 @@ HasRefusedTouches tables touches Memory = Unit {0}
 HasRefusedTouches tables touches Write = ⊥
 HasRefusedTouches tables touches (Journal fault) = (fault ≡ journal.Memory)
     ⊎ HasTouchCause tables touches fault
+HasRefusedTouches tables touches (OtherHeader fault) = ⊥
 HasRefusedTouches tables touches (Seal fault) = ⊥
+HasRefusedTouches tables touches (Gate fault) = ⊥
+HasRefusedTouches tables touches (Card card cards) = ⊥
 HasRefusedTouches tables touches (Place count) = ⊥
 HasRefusedTouches tables touches (Balance card) = ⊥
 
@@ -120,7 +127,10 @@ abbrev pub HasRefused : Tables → Option ℕ → List ℕ → AuditFault → Ty
 HasRefused tables at bytes Memory = Unit {0}
 HasRefused tables at bytes Write = ⊥
 HasRefused tables at bytes (Journal fault) = IsRefused tables at bytes fault
+HasRefused tables at bytes (OtherHeader fault) = ⊥
 HasRefused tables at bytes (Seal fault) = ⊥
+HasRefused tables at bytes (Gate fault) = ⊥
+HasRefused tables at bytes (Card card cards) = ⊥
 HasRefused tables at bytes (Place count) = IsBehind tables at bytes count
 HasRefused tables at bytes (Balance card) = ⊥
 
@@ -130,7 +140,10 @@ HasEnded tables at bytes text Memory = text ≡ []
 HasEnded tables at bytes text Write = (whole : List ℕ) × (totals : Totals)
     × AreBalances tables at bytes whole totals × IsBeginning text whole
 HasEnded tables at bytes text (Journal fault) = (text ≡ []) × IsRefused tables at bytes fault
+HasEnded tables at bytes text (OtherHeader fault) = ⊥
 HasEnded tables at bytes text (Seal fault) = ⊥
+HasEnded tables at bytes text (Gate fault) = ⊥
+HasEnded tables at bytes text (Card card cards) = ⊥
 HasEnded tables at bytes text (Place count) = (text ≡ []) × IsBehind tables at bytes count
 HasEnded tables at bytes text (Balance card) = ⊥
 

@@ -1,4 +1,5 @@
 pub mod Touches
+pub mod Expected
 pub mod Seal
 pub mod Finding
 pub mod Revisions
@@ -6,10 +7,13 @@ pub mod AuditLines
 pub mod Texts
 pub mod Audit
 pub mod Laws
+pub mod GateFile
+pub mod GateProgress
 pub mod Calendar
 pub mod Days
 pub mod HistoryRow
 pub mod HistoryLines
+pub mod Wanted
 pub mod History
 pub mod HistoryProgress
 pub mod Sums

@@ -2,7 +2,8 @@
 
 ghost use Rattle.std.specs.Prelude.{◌≡◌, Some};
 ghost use Rattle.journal_audit.specs.declared.fault.AuditFault.TheVariants as cause;
-ghost use Rattle.journal_audit.specs.Texts.{printed_seal_fault};
+ghost use Rattle.journal_audit.specs.Texts.{printed_header_fault, printed_seal_fault};
+ghost use Rattle.journal_audit.specs.Texts.{printed_gate_fault};
 
 use gate_session::WriteFault;
 use std::alloc::{AllocError, AllocFailed};
@@ -10,18 +11,43 @@ use std::fmt;
 use tap_journal::JournalFault;
 use thiserror::Error;
 
+/// Why a header doesn't say what is expected of it, in the order in which the causes are looked
+/// for. The printed numbers begin at 1.
+#[derive(Clone, Copy, Debug, PartialEq, Eq, Error)]
+pub enum HeaderFault {
+    /// It says another capacity than the expected one.
+    Capacity { says: u32, expected: u32 },
+    /// It says another number of cards than the expected one.
+    Cards { says: u32, expected: u32 },
+}
+
 /// Why a journal isn't the one that was sealed, in the order in which the causes are looked for.
 /// The printed numbers begin at 1.
 #[derive(Clone, Copy, Debug, PartialEq, Eq, Error)]
 pub enum SealFault {
-    /// The journal has fewer touches than the seal is of.
-    Shorter,
+    /// The journal has so many touches, and the seal is of more.
+    Shorter { touches: u32, sealed: u32 },
     /// The bytes of the header and of these touches' slots are others.
     Changed,
 }
 
-/// Why a journal wasn't told of to its end. `Seal` comes of an audit alone, and `Place` of
-/// balances.
+/// Why some bytes aren't a gate's file, in the order in which the causes are looked for
+/// (docs/JOURNAL.md, "A gate's file"). The printed numbers begin at 1.
+#[derive(Clone, Copy, Debug, PartialEq, Eq, Error)]
+pub enum GateFault {
+    /// They aren't a journal, or its making was cut short.
+    NoFile,
+    /// They are a journal of another version or of other numbers, of another gate, or a server's.
+    AnotherFile,
+    /// The slot at this place, counted from 0, holds no touch, is cut short or isn't there.
+    Damaged(u32),
+    /// The touch at this place, counted from 0, is another gate's, or its number isn't its place
+    /// plus one.
+    Foreign(u32),
+}
+
+/// Why a journal wasn't told of to its end. `Header` and `Seal` come of audits alone, `Gate` of the
+/// audit of a gate's file, `Card` of a history, and `Place` of balances.
 #[derive(Clone, Copy, Debug, PartialEq, Eq, Error)]
 pub enum AuditFault {
     /// There was no memory for what is told.
@@ -33,9 +59,18 @@ pub enum AuditFault {
     /// The bytes are no journal that can be opened with these tables.
     #[error("{0}")]
     Journal(JournalFault),
+    /// The journal's header doesn't say what is expected of it.
+    #[error("{0}")]
+    Header(HeaderFault),
     /// The journal isn't the one that was sealed.
     #[error("{0}")]
     Seal(SealFault),
+    /// The bytes aren't the gate's file.
+    #[error("{0}")]
+    Gate(GateFault),
+    /// The history was asked for that of a card above the journal's number of cards.
+    #[error("card {card}, and the journal has {cards}")]
+    Card { card: u32, cards: u32 },
     /// The journal has fewer touches than balances were asked for behind: so many.
     #[error("the journal has {0} touches")]
     Place(u32),
@@ -52,8 +87,40 @@ impl fmt::Display for SealFault {
 
     fn fmt<W: fmt::Write>(&self, f: &mut fmt::Formatter<W>) -> fmt::Result {
         match *self {
-            SealFault::Shorter => f.write_str("1 Shorter"),
+            SealFault::Shorter { touches, sealed } => {
+                write!(f, "1 Shorter {touches}, not {sealed}")
+            }
             SealFault::Changed => f.write_str("2 Changed"),
+        }
+    }
+}
+
+/// Prints the fault's number and name, and both numbers: what stands in a fault line behind
+/// `fault header `.
+impl fmt::Display for HeaderFault {
+    ghost output = { λ fault. Some (printed_header_fault fault) };
+
+    fn fmt<W: fmt::Write>(&self, f: &mut fmt::Formatter<W>) -> fmt::Result {
+        match *self {
+            HeaderFault::Capacity { says, expected } => {
+                write!(f, "1 Capacity {says}, not {expected}")
+            }
+            HeaderFault::Cards { says, expected } => write!(f, "2 Cards {says}, not {expected}"),
+        }
+    }
+}
+
+/// Prints the fault's number and name, and the place where there is one: what stands in a fault
+/// line behind `fault gate `.
+impl fmt::Display for GateFault {
+    ghost output = { λ fault. Some (printed_gate_fault fault) };
+
+    fn fmt<W: fmt::Write>(&self, f: &mut fmt::Formatter<W>) -> fmt::Result {
+        match *self {
+            GateFault::NoFile => f.write_str("1 NoFile"),
+            GateFault::AnotherFile => f.write_str("2 AnotherFile"),
+            GateFault::Damaged(place) => write!(f, "3 Damaged {place}"),
+            GateFault::Foreign(place) => write!(f, "4 Foreign {place}"),
         }
     }
 }
@@ -95,5 +162,21 @@ impl From<SealFault> for AuditFault {
 
     fn from(fault: SealFault) -> AuditFault {
         AuditFault::Seal(fault)
+    }
+}
+
+impl From<HeaderFault> for AuditFault {
+    ghost from_gives = { λ given fault. fault ≡ cause.Header given };
+
+    fn from(fault: HeaderFault) -> AuditFault {
+        AuditFault::Header(fault)
+    }
+}
+
+impl From<GateFault> for AuditFault {
+    ghost from_gives = { λ given fault. fault ≡ cause.Gate given };
+
+    fn from(fault: GateFault) -> AuditFault {
+        AuditFault::Gate(fault)
     }
 }

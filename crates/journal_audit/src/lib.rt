@@ -7,6 +7,7 @@
 mod audit;
 mod balances;
 mod fault;
+mod gate_file;
 mod history;
 mod laws;
 mod names;
@@ -14,10 +15,12 @@ mod touches;
 
 pub use audit::audit_journal;
 pub use audit::finding::Finding;
+pub use audit::header::Asked;
 pub use audit::seal::{Seal, Sealed};
 pub use balances::totals::Totals;
 pub use balances::write_balances;
-pub use fault::{AuditFault, SealFault};
+pub use fault::{AuditFault, GateFault, HeaderFault, SealFault};
+pub use gate_file::audit_gate_file;
 pub use history::wanted::{HistoryFormat, Wanted};
 pub use history::write_history;
 pub use laws::a_journal_has_no_cause_alone;

@@ -3,7 +3,9 @@ use Rattle.std.proofs.Common.{◌≡◌, refl, [], ◌∷◌, Some, codes, true,
 use Rattle.std.specs.Fmt.{digits}
 use Rattle.hex.proofs.OnLiterals.{hex_on_literals}
 use Rattle.journal_audit.specs.declared.fault.AuditFault.TheVariants as audits
-use Rattle.journal_audit.specs.declared.fault.SealFault.TheVariants.{Changed}
+use Rattle.journal_audit.specs.declared.fault.GateFault.TheVariants.{Foreign}
+use Rattle.journal_audit.specs.declared.fault.HeaderFault.TheVariants.{Capacity, Cards}
+use Rattle.journal_audit.specs.declared.fault.SealFault.TheVariants.{Shorter, Changed}
 use Rattle.tap_journal.specs.declared.fault.JournalFault.TheVariants as journals
 use Rattle.tap_journal.specs.declared.fault.MigrateCause.TheVariants as causes
 use Rattle.table_commands.specs.Detail.{no_detail}
@@ -12,6 +14,8 @@ use Rattle.journal_commands.specs.Differing.{other_table, other_cards, missing_t
 use Rattle.journal_commands.specs.Migrated.{migrated_line}
 use Rattle.journal_commands.specs.Told.{told_fault}
 use Rattle.journal_commands.specs.declared.fault.CommandFault.TheVariants.{Listen, Place, Behind, Balance, Seal, Journal, Migrate, SeatMissing, Mismatch}
+use Rattle.journal_commands.specs.declared.fault.CommandFault.TheVariants.{Header, Gate, Card, Output}
+use Rattle.journal_commands.specs.declared.output.TheConstants.{PIPE_STATUS}
 
 -- the line of each kind of fault
 a_fault_is_told_in_one_line :
@@ -20,10 +24,17 @@ a_fault_is_told_in_one_line :
     × (told_fault (Behind 785 no_detail) ≡ Some (codes "fault behind 785"))
     × (told_fault (Balance 17) ≡ Some (codes "fault balance 17"))
     × (told_fault (Seal Changed) ≡ Some (codes "fault seal 2 Changed"))
+    × (told_fault (Seal (Shorter 2 4)) ≡ Some (codes "fault seal 1 Shorter 2, not 4"))
+    × (told_fault (Header (Capacity 2 1000)) ≡ Some (codes "fault header 1 Capacity 2, not 1000"))
+    × (told_fault (Header (Cards 9 10)) ≡ Some (codes "fault header 2 Cards 9, not 10"))
+    × (told_fault (Gate (Foreign 12)) ≡ Some (codes "fault gate 4 Foreign 12"))
+    × (told_fault (Card 11 10) ≡ Some (codes "fault card 11 above 10"))
+    × (told_fault (Output no_detail) ≡ Some (codes "fault run 3 Write"))
     × (told_fault SeatMissing ≡ Some (codes "fault close 1 SeatMissing"))
     × (told_fault Mismatch ≡ Some (codes "fault close 2 Mismatch"))
 unfolding digits
-a_fault_is_told_in_one_line = (refl, refl, refl, refl, refl, refl, refl)
+a_fault_is_told_in_one_line =
+    (refl, refl, refl, refl, refl, refl, refl, refl, refl, refl, refl, refl, refl)
 
 -- the line of a fault that came of a part
 a_fault_of_a_part_is_told_as_the_commands :
@@ -52,3 +63,7 @@ what_differs_is_told_with_both_values = (refl, refl, refl, refl)
 a_migrated_journal_is_told_in_a_line : migrated_line 1000000 ≡ codes "migrated 1000000\n"
 unfolding digits
 a_migrated_journal_is_told_in_a_line = refl
+
+-- the status of a command whose output nobody reads any more: 128 and the number of SIGPIPE
+the_status_of_a_pipe_that_is_gone : PIPE_STATUS ≡ 141
+the_status_of_a_pipe_that_is_gone = refl

@@ -1,8 +1,10 @@
+pub mod Behind
 pub mod Migrated
 pub mod Carried
 pub mod Command
 pub mod Differing
 pub mod Journals
+pub mod Output
 pub mod Prepared
 pub mod Told
 pub mod Words

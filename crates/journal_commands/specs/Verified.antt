@@ -6,13 +6,14 @@ use Rattle.gate_session.specs.Writing.{Wrote}
 use Rattle.journal_audit.specs.Audit.{IsSound, HasEnded}
 use Rattle.journal_audit.specs.declared.audit.finding.Finding.{Finding}
 use Rattle.journal_audit.specs.declared.audit.finding.Finding.TheVariants.{Sound, LookBehind}
-use Rattle.journal_audit.specs.declared.audit.seal.Seal.{Seal}
+use Rattle.journal_audit.specs.declared.audit.header.Asked.{Asked}
+use Rattle.journal_audit.specs.GateFile.{IsSoundFile, HasEndedFile}
 use Rattle.journal_audit.specs.declared.fault.AuditFault.{AuditFault}
 use Rattle.reply_book.specs.Tables.{Tables}
 use Rattle.table_commands.specs.Files.{ForFile, IsFileFault}
 use Rattle.table_commands.specs.Tables.{AreTablesOf, AreRefused}
 use Rattle.table_commands.specs.declared.fault.TrialFault.{TrialFault}
-use Rattle.journal_commands.specs.Command.{audit_fault, seal_asked}
+use Rattle.journal_commands.specs.Command.{audit_fault, asked_by}
 use Rattle.journal_commands.specs.declared.fault.CommandFault.{CommandFault}
 use Rattle.journal_commands.specs.declared.fault.CommandFault.TheVariants.{Trial}
 
@@ -61,7 +62,7 @@ status_of LookBehind = 3
 
 -- the bytes are a sound journal, of which the text is the lines, and the status is that of what is
 -- found
-abbrev pub IsVerified : Option Tables → Seal → ℕ → List ℕ → List ℕ → Type 0
+abbrev pub IsVerified : Option Tables → Asked → ℕ → List ℕ → List ℕ → Type 0
 IsVerified tables asked status bytes text =
     (found : Finding) × IsSound tables asked bytes text found × (status ≡ status_of found)
 
@@ -70,4 +71,42 @@ abbrev pub HasEndedEarly : (List ℕ → List ℕ → Type 0) → Verify → Opt
     → CommandFault → Type 0
 HasEndedEarly gave verify before after fault =
     (audit : AuditFault) × (fault ≡ audit_fault audit) × HasVerified gave verify before after
-    (λ tables bytes text. HasEnded tables (seal_asked verify.seal) bytes text audit)
+    (λ tables bytes text. HasEnded tables (asked_by verify) bytes text audit)
+
+-- the file of the journal is the sound file of this gate, of which the text is the lines, and the
+-- status is that of what is found
+abbrev pub HasVerifiedFile : (List ℕ → List ℕ → Type 0) → Verify → ℕ → Option (List ℕ)
+    → Option (List ℕ) → ℕ → Type 0
+HasVerifiedFile gave verify gate before after status = ForFile gave verify.journal.now
+    (λ bytes. Wrote before after (λ text. (found : Finding)
+    × IsSoundFile gate (asked_by verify) bytes text found × (status ≡ status_of found)))
+
+-- the audit of the gate's file ended early, for this fault, behind what was written
+abbrev pub HasEndedFileEarly : (List ℕ → List ℕ → Type 0) → Verify → ℕ → Option (List ℕ)
+    → Option (List ℕ) → CommandFault → Type 0
+HasEndedFileEarly gave verify gate before after fault =
+    (audit : AuditFault) × (fault ≡ audit_fault audit) × ForFile gave verify.journal.now
+    (λ bytes. Wrote before after (λ text. HasEndedFile gate (asked_by verify) bytes text audit))
+
+-- the file isn't had, for this fault
+abbrev pub IsFileUnread : CommandFault → Type 0
+IsFileUnread (Trial fault) = IsFileFault fault
+IsFileUnread _ = ⊥
+
+-- where no gate is named the file is verified as a station's journal, and else as that gate's file
+abbrev pub HasVerifiedAs : (List ℕ → List ℕ → Type 0) → Verify → Option ℕ → Option (List ℕ)
+    → Option (List ℕ) → ℕ → Type 0
+HasVerifiedAs gave verify None before after status =
+    HasVerified gave verify before after (λ tables bytes text.
+    IsVerified tables (asked_by verify) status bytes text)
+HasVerifiedAs gave verify (Some gate) before after status =
+    HasVerifiedFile gave verify gate before after status
+
+-- so it is of why that isn't done: the tables or the file aren't had, and nothing was written, or the
+-- audit ended early
+abbrev pub IsUnverifiedAs : (List ℕ → List ℕ → Type 0) → Verify → Option ℕ → Option (List ℕ)
+    → Option (List ℕ) → Type 0 → CommandFault → Type 0
+IsUnverifiedAs gave verify None before after same fault =
+    (IsUnread gave verify fault × same) ⊎ HasEndedEarly gave verify before after fault
+IsUnverifiedAs gave verify (Some gate) before after same fault =
+    (IsFileUnread fault × same) ⊎ HasEndedFileEarly gave verify gate before after fault

@@ -1,29 +1,50 @@
-//! The command `verify`: a journal that is read alone, and what is told of it.
+//! The command `verify`: a journal or a gate's file that is read alone, and what is told of it.
 
 ghost use Rattle.std.specs.Prelude.{◌≡◌, ◌⊎◌, [], IfOk, IfErr, IfSome, map, option_map};
 ghost use Rattle.std.specs.Process.{exit_status};
 ghost use Rattle.fare_schedule.specs.Schedule.{revisions_of};
 ghost use Rattle.reply_book.specs.Tables.{tables_in as tables_by};
-ghost use Rattle.journal_commands.specs.Command.{seal_asked};
+ghost use Rattle.journal_commands.specs.Command.{asked_by, seal_asked, sealed_named};
 ghost use Rattle.journal_commands.specs.Verified.{AreTablesAsked, AreTablesRefused, IsUnread};
 ghost use Rattle.journal_commands.specs.Verified.{status_of, IsVerified, HasVerified};
-ghost use Rattle.journal_commands.specs.Verified.{HasEndedEarly};
+ghost use Rattle.journal_commands.specs.Verified.{HasEndedEarly, HasVerifiedAs, IsUnverifiedAs};
+ghost use Rattle.journal_commands.specs.Verified.{HasVerifiedFile, HasEndedFileEarly, IsFileUnread};
 
 use crate::fault::CommandFault;
-use command_line::{Seal as AskedSeal, Verify};
+use command_line::{Seal as AskedSeal, Sealed as NamedSeal, Verify};
 use fare_schedule::Schedule;
-use journal_audit::{Finding, Seal, Sealed, audit_journal};
+use journal_audit::{Asked, Finding, Seal, Sealed, audit_gate_file, audit_journal};
 use std::alloc::Global;
 use std::io::Write;
 use std::process::ExitCode;
 use table_commands::{TrialFault, WholeFiles, tables_in};
 
-/// Writes what the journal in a file holds, by the fare tables that are named, where they are. The
-/// status is 3 where more is to be looked at.
+/// Writes what the journal in a file holds, by the fare tables that are named, where they are. Where a
+/// gate is named, it is that gate's file, and no table is looked at. The status is 3 where more is to
+/// be looked at.
 ///
 /// The tables are looked at first, and then the journal's file. It is opened for reading alone, and
-/// isn't locked: a server may go on with it. It is read to its end before anything is written.
+/// isn't locked: a server or a gate may go on with it. It is read to its end before anything is
+/// written.
 pub fn verify_journal<F: WholeFiles, W: Write>(
+    alloc: Global,
+    files: &F,
+    asked: &Verify<'_>,
+    writer: &mut W,
+) -> Result<ExitCode, CommandFault>
+    ensures ok { IfOk result (λ status. HasVerifiedAs (F.gave files.now) asked.now asked.now.gate
+        (W.contents writer.old) (W.contents writer.new) (exit_status status)) }
+    ensures fault { IfErr result (IsUnverifiedAs (F.gave files.now) asked.now asked.now.gate
+        (W.contents writer.old) (W.contents writer.new) (writer.new ≡ writer.old)) }
+{
+    match asked.gate {
+        Some(gate) => verify_gate_file(alloc, files, gate, asked, writer),
+        None => verify_station(alloc, files, asked, writer),
+    }
+}
+
+/// Writes what a station's journal in a file holds, by the fare tables that are named, where they are.
+fn verify_station<F: WholeFiles, W: Write>(
     alloc: Global,
     files: &F,
     asked: &Verify<'_>,
@@ -31,7 +52,7 @@ pub fn verify_journal<F: WholeFiles, W: Write>(
 ) -> Result<ExitCode, CommandFault>
     ensures ok { IfOk result (λ status. HasVerified (F.gave files.now) asked.now
         (W.contents writer.old) (W.contents writer.new)
-        (λ tables bytes text. IsVerified tables (seal_asked asked.now.seal) (exit_status status)
+        (λ tables bytes text. IsVerified tables (asked_by asked.now) (exit_status status)
         bytes text)) }
     ensures fault { IfErr result (λ fault.
         (IsUnread (F.gave files.now) asked.now fault × (writer.new ≡ writer.old))
@@ -40,8 +61,28 @@ pub fn verify_journal<F: WholeFiles, W: Write>(
 {
     let schedule = tables_asked(alloc, files, asked)?;
     let bytes = files.bytes_in(alloc, asked.journal)?;
-    let seal = seal_of(asked.seal);
-    let found = audit_journal(alloc, schedule, seal, &bytes, writer)?;
+    let wanted = asked_of(asked);
+    let found = audit_journal(alloc, schedule, wanted, &bytes, writer)?;
+    Ok(ExitCode::from(status_of(found)))
+}
+
+/// Writes what the file of this gate holds.
+fn verify_gate_file<F: WholeFiles, W: Write>(
+    alloc: Global,
+    files: &F,
+    gate: u16,
+    asked: &Verify<'_>,
+    writer: &mut W,
+) -> Result<ExitCode, CommandFault>
+    ensures ok { IfOk result (λ status. HasVerifiedFile (F.gave files.now) asked.now gate
+        (W.contents writer.old) (W.contents writer.new) (exit_status status)) }
+    ensures fault { IfErr result (λ fault. (IsFileUnread fault × (writer.new ≡ writer.old))
+        ⊎ HasEndedFileEarly (F.gave files.now) asked.now gate
+        (W.contents writer.old) (W.contents writer.new) fault) }
+{
+    let content = files.bytes_in(alloc, asked.journal)?;
+    let wanted = asked_of(asked);
+    let found = audit_gate_file(alloc, gate, wanted, &content, writer)?;
     Ok(ExitCode::from(status_of(found)))
 }
 
@@ -76,13 +117,38 @@ fn status_of(found: Finding) -> u8
     }
 }
 
-/// What an audit is asked of the seal.
+/// What an audit is asked of the header and the seals.
+fn asked_of(asked: &Verify<'_>) -> Asked
+    ensures { result ≡ asked_by asked.now }
+{
+    Asked {
+        capacity: asked.expect_capacity,
+        cards: asked.expect_cards,
+        seal: seal_of(asked.seal),
+    }
+}
+
+/// What an audit is asked of the seals.
 fn seal_of(asked: AskedSeal) -> Seal
     ensures { result ≡ seal_asked asked }
 {
-    match asked {
-        AskedSeal::Unasked => Seal::Unasked,
-        AskedSeal::Made => Seal::Made,
-        AskedSeal::Kept { touches, digest } => Seal::Kept(Sealed { touches, digest }),
+    let kept = match asked.kept {
+        Some(kept) => Some(sealed_of(kept)),
+        None => None,
+    };
+    Seal {
+        kept,
+        is_made: asked.made,
+    }
+}
+
+/// The seal that a command line names.
+fn sealed_of(sealed: NamedSeal) -> Sealed
+    ensures { result ≡ sealed_named sealed }
+{
+    let digest = sealed.digest;
+    Sealed {
+        touches: sealed.touches,
+        digest,
     }
 }

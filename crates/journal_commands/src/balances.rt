@@ -7,16 +7,21 @@ ghost use Rattle.journal_audit.specs.declared.balances.totals.Totals.{Totals as 
 ghost use Rattle.journal_audit.specs.declared.fault.AuditFault.{AuditFault};
 ghost use Rattle.journal_commands.specs.Command.{audit_fault};
 ghost use Rattle.journal_commands.specs.Words.{HasTold, IsUnread};
+ghost use Rattle.journal_commands.specs.declared.fault.CommandFault.TheVariants.{Output};
+ghost use Rattle.table_commands.specs.declared.detail.Detail.{Detail};
 
 use crate::fault::CommandFault;
 use command_line::Balances;
 use journal_audit::{Totals, write_balances};
+use std::alloc::Global;
+use std::io;
 use std::io::Write;
 use std::process::ExitCode;
-use table_commands::{WholeFiles, tables_in};
+use table_commands::{Detail, Refusal, WholeFiles, tables_in};
 
 /// Writes what each issued card of the journal in a file holds, by the fare tables that are named,
-/// and tells standard error the sums. What it doesn't take is lost.
+/// and tells standard error the sums. `Output` comes where it doesn't take them: then all rows were
+/// written.
 ///
 /// The tables are looked at first, and then the journal's file. It is opened for reading alone, and
 /// isn't locked: a server may go on with it. It is read to its end before anything is written.
@@ -37,24 +42,39 @@ pub fn tell_balances<R: AllocGlobal + Eprint, F: WholeFiles, W: Write>(
         × HasTold (F.gave files.now) asked.now.table.now
         (map (λ word. word.now) asked.now.revisions.items) asked.now.journal.now
         (W.contents writer.old) (W.contents writer.new) (λ tables bytes text.
-        HasEnded tables asked.now.at bytes text cause))) }
+        HasEnded tables asked.now.at bytes text cause))
+        ⊎ ((detail : Detail) × (fault ≡ Output detail)
+        × HasTold (F.gave files.now) asked.now.table.now
+        (map (λ word. word.now) asked.now.revisions.items) asked.now.journal.now
+        (W.contents writer.old) (W.contents writer.new) (λ tables bytes text.
+        (totals : Sums) × AreBalances tables asked.now.at bytes text totals))) }
 {
     let alloc = rt.alloc();
     let schedule = tables_in(alloc, files, Some(asked.table), asked.revisions.as_slice())?;
     let bytes = files.bytes_in(alloc, asked.journal)?;
     let totals = write_balances(alloc, schedule, asked.at, &bytes, writer)?;
-    tell_totals(rt, &totals);
-    Ok(ExitCode::SUCCESS)
+    match tell_totals(rt, &totals) {
+        Ok(()) => Ok(ExitCode::SUCCESS),
+        Err(error) => Err(sums_fault(alloc, &error)),
+    }
+}
+
+/// The fault of sums that standard error doesn't take, for this error.
+fn sums_fault(alloc: Global, error: &io::Error) -> CommandFault
+    ensures { (detail : Detail) × (result ≡ Output detail) }
+{
+    let refusal = Refusal::of(error);
+    CommandFault::Output(Detail::of(alloc, "standard error", &refusal))
 }
 
 /// Tells the sums over all issued cards, and that they are balanced: `write_balances` refuses a
-/// journal in which a card's, or their sum, isn't.
-fn tell_totals<R: Eprint>(rt: &R, totals: &Totals) {
+/// journal in which a card's, or their sum, isn't. An error is that of standard error.
+fn tell_totals<R: Eprint>(rt: &R, totals: &Totals) -> io::Result<()> {
     let (cards, balance) = (totals.cards, totals.balance);
     let (paid_in, charged) = (totals.paid_in, totals.charged);
-    let _ = eprintln!(rt; "cards {cards}");
-    let _ = eprintln!(rt; "balance {balance}");
-    let _ = eprintln!(rt; "paid_in {paid_in}");
-    let _ = eprintln!(rt; "charged {charged}");
-    let _ = eprintln!(rt; "balanced");
+    eprintln!(rt; "cards {cards}")?;
+    eprintln!(rt; "balance {balance}")?;
+    eprintln!(rt; "paid_in {paid_in}")?;
+    eprintln!(rt; "charged {charged}")?;
+    eprintln!(rt; "balanced")
 }

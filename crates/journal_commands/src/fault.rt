@@ -9,7 +9,7 @@ ghost use Rattle.journal_commands.specs.Command.{audit_fault};
 ghost use Rattle.journal_commands.specs.Told.{told_fault};
 
 use clap::Error as LineError;
-use journal_audit::{AuditFault, SealFault};
+use journal_audit::{AuditFault, GateFault, HeaderFault, SealFault};
 use line_replay::RunFault;
 use std::alloc::AllocError;
 use std::process::ExitCode;
@@ -28,8 +28,14 @@ pub enum CommandFault {
     Journal(JournalFault, Detail),
     /// The journal can't be carried over to the new file.
     Migrate(MigrateCause, Detail),
+    /// The journal's header doesn't say what is expected of it.
+    Header(HeaderFault),
     /// The journal isn't the one that was sealed.
     Seal(SealFault),
+    /// The file isn't the gate's.
+    Gate(GateFault),
+    /// The touches of a card were asked for, and the journal has fewer cards than its number.
+    Card { card: u32, cards: u32 },
     /// The journal has fewer touches than balances were asked for behind: it has so many.
     Place(u32),
     /// So many open slots stand behind the journal's end, and the server was to look for them.
@@ -39,6 +45,9 @@ pub enum CommandFault {
     Balance(u32),
     /// The address can't be listened on.
     Listen(Detail),
+    /// A standard stream didn't take what was written. It is the run's fault, with what the system
+    /// says of it.
+    Output(Detail),
     /// Not as many seats came back to the closing as were made. No run shows it.
     SeatMissing,
     /// A receipt doesn't stand at its place. No run shows it.
@@ -55,11 +64,15 @@ impl fmt::Display for CommandFault {
             CommandFault::Trial(fault) => write!(f, "{fault}"),
             CommandFault::Journal(fault, _) => write!(f, "fault journal {fault}"),
             CommandFault::Migrate(cause, _) => write!(f, "fault migrate {cause}"),
+            CommandFault::Header(fault) => write!(f, "fault header {fault}"),
             CommandFault::Seal(fault) => write!(f, "fault seal {fault}"),
+            CommandFault::Gate(fault) => write!(f, "fault gate {fault}"),
+            CommandFault::Card { card, cards } => write!(f, "fault card {card} above {cards}"),
             CommandFault::Place(touches) => write!(f, "fault place {touches}"),
             CommandFault::Behind(slots, _) => write!(f, "fault behind {slots}"),
             CommandFault::Balance(card) => write!(f, "fault balance {card}"),
             CommandFault::Listen(_) => f.write_str("fault listen"),
+            CommandFault::Output(_) => f.write_str("fault run 3 Write"),
             CommandFault::SeatMissing => f.write_str("fault close 1 SeatMissing"),
             CommandFault::Mismatch => f.write_str("fault close 2 Mismatch"),
         }
@@ -75,6 +88,7 @@ impl CommandFault {
             CommandFault::Migrate(_, detail) => detail.line(),
             CommandFault::Behind(_, detail) => detail.line(),
             CommandFault::Listen(detail) => detail.line(),
+            CommandFault::Output(detail) => detail.line(),
             _ => None,
         }
     }
@@ -155,7 +169,10 @@ impl From<AuditFault> for CommandFault {
             AuditFault::Memory => RunFault::Memory.into(),
             AuditFault::Write => RunFault::Write.into(),
             AuditFault::Journal(fault) => fault.into(),
+            AuditFault::Header(fault) => CommandFault::Header(fault),
             AuditFault::Seal(fault) => CommandFault::Seal(fault),
+            AuditFault::Gate(fault) => CommandFault::Gate(fault),
+            AuditFault::Card { card, cards } => CommandFault::Card { card, cards },
             AuditFault::Place(touches) => CommandFault::Place(touches),
             AuditFault::Balance(card) => CommandFault::Balance(card),
         }

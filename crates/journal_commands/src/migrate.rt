@@ -12,7 +12,7 @@ ghost use Rattle.journal_commands.specs.declared.fault.CommandFault.TheVariants.
 ghost use Rattle.journal_commands.specs.Migrated.{migrated_line};
 ghost use Rattle.journal_commands.specs.Carried.{HasCarried};
 
-use crate::behind::{slots_behind, tell_behind};
+use crate::behind::tell_end;
 use crate::disks::JournalFiles;
 use crate::fault::CommandFault;
 use command_line::Migrate;
@@ -56,7 +56,7 @@ pub fn migrate_journal<
     let touches = carry_over(rt.alloc(), disks, asked, &digest)?;
     match write_migrated(writer, touches) {
         Ok(()) => {
-            tell_behind(rt, slots_behind(rt, asked.from, touches));
+            tell_end(rt, files, asked.from);
             Ok(ExitCode::SUCCESS)
         }
         Err(_) => Err(RunFault::Write.into()),

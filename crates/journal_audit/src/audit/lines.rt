@@ -1,42 +1,55 @@
 //! The lines that are told of a sound journal.
 
-ghost use Rattle.std.specs.Prelude.{◌≡◌, ◌≤◌, length, string_bytes, IfOk, Some};
-ghost use Rattle.journal_audit.specs.AuditLines.{header_told, counts_told, text_of_contents};
-ghost use Rattle.journal_audit.specs.AuditLines.{behind_text, seal_text, version_number};
+ghost use Rattle.std.specs.Prelude.{◌≡◌, ◌≤◌, ◌++◌, length, string_bytes, IfOk, OnOk, Some};
+ghost use Rattle.journal_audit.specs.AuditLines.{header_told, gate_header_told, counts_told};
+ghost use Rattle.journal_audit.specs.AuditLines.{text_of_contents, behind_text, seal_text};
+ghost use Rattle.journal_audit.specs.AuditLines.{seals_text, version_number};
 
 use crate::audit::finding::{finding_of, last_line};
-use crate::audit::seal::Sealed;
+use crate::audit::seal::{Sealed, Seals};
 use std::alloc::{AllocError, Global};
 use tap_journal::{Contents, Format};
 
-/// All lines: what was found, the open slots behind the end, those of the revisions, the seal, and
-/// that it is sound, with whether more is to be looked at.
+/// All lines: those of the header, what was found behind it, the open slots behind the end, the
+/// lines of the revisions, the seals, and that it is sound, with whether more is to be looked at.
 pub(crate) fn text_of(
     alloc: Global,
+    header: &str,
     found: &Contents,
     revisions: &[u8],
-    told: &Option<Sealed>,
+    told: &Seals,
 ) -> Result<Vec<u8>, AllocError>
     requires { length found.now.touches.items ≤ found.now.capacity }
     ensures { IfOk result (λ text. text.items
-        ≡ text_of_contents found.now revisions.now told.now) }
+        ≡ text_of_contents header.now found.now revisions.now told.now) }
 {
-    let header = header_lines(alloc, found)?;
     let counts = count_lines(alloc, found)?;
     let behind = behind_line(alloc, found.behind)?;
-    let seal = seal_line(alloc, told)?;
     let mut text = Vec::new(alloc);
     text.extend_from_slice(header.as_bytes())?;
     text.extend_from_slice(counts.as_bytes())?;
     text.extend_from_slice(behind.as_bytes())?;
     text.extend_from_slice(revisions)?;
-    text.extend_from_slice(seal.as_bytes())?;
+    append_seals(&mut text, alloc, told)?;
     text.extend_from_slice(last_line(finding_of(found.behind)).as_bytes())?;
     Ok(text)
 }
 
+/// The lines of a gate's file's format and header.
+pub(crate) fn gate_header_lines(
+    alloc: Global,
+    gate: u16,
+    found: &Contents,
+) -> Result<String, AllocError>
+    ensures { IfOk result (λ text. string_bytes text ≡ gate_header_told gate found.now) }
+{
+    let version = version_of(found.format);
+    let capacity = found.capacity;
+    format!(in alloc; "version {version}\ncapacity {capacity}\ngate {gate}\n")
+}
+
 /// The lines of the format and the header.
-fn header_lines(alloc: Global, found: &Contents) -> Result<String, AllocError>
+pub(crate) fn header_lines(alloc: Global, found: &Contents) -> Result<String, AllocError>
     ensures { IfOk result (λ text. string_bytes text ≡ header_told found.now) }
 {
     let version = version_of(found.format);
@@ -77,6 +90,16 @@ fn behind_line(alloc: Global, behind: u32) -> Result<String, AllocError>
     } else {
         format!(in alloc; "behind {behind}\n")
     }
+}
+
+/// Adds the lines of the seals: the one that the journal was held against, and the one that was made.
+fn append_seals(text: &mut Vec<u8>, alloc: Global, told: &Seals) -> Result<(), AllocError>
+    ensures { OnOk result (text.new.items ≡ text.old.items ++ seals_text told.now) }
+{
+    let kept = seal_line(alloc, &told.kept)?;
+    let made = seal_line(alloc, &told.made)?;
+    text.extend_from_slice(kept.as_bytes())?;
+    text.extend_from_slice(made.as_bytes())
 }
 
 /// The line of a seal, where there is one.

@@ -6,9 +6,10 @@ ghost use Rattle.reply_book.specs.Tables.{tables_in};
 ghost use Rattle.journal_audit.specs.Audit.{IsSound, HasRefused};
 
 use crate::audit::finding::{Finding, finding_of};
-use crate::audit::lines::text_of;
+use crate::audit::header::{Asked, check_header};
+use crate::audit::lines::{header_lines, text_of};
 use crate::audit::revisions::revisions_entered;
-use crate::audit::seal::{Seal, check_seal};
+use crate::audit::seal::check_seal;
 use crate::fault::AuditFault;
 use crate::touches::first_digest;
 use fare_schedule::Schedule;
@@ -16,11 +17,11 @@ use std::alloc::Global;
 use tap_journal::read_alone;
 
 /// The lines of the sound journal that some bytes are, held against tables where they are named,
-/// and with the seal that was asked for; and what is found of it.
+/// with the header that is expected, and with the seals that are asked for; and what is found of it.
 pub(crate) fn report(
     alloc: Global,
     schedule: Option<Schedule>,
-    asked: &Seal,
+    asked: &Asked,
     bytes: &[u8],
 ) -> Result<(Vec<u8>, Finding), AuditFault>
     requires { IfSome schedule (λ s. revisions_of s ≡ []) }
@@ -30,7 +31,9 @@ pub(crate) fn report(
 {
     let found = read_alone(alloc, bytes, first_digest(&schedule))?;
     let revisions = revisions_entered(alloc, found.cards, schedule, &found.touches)?;
-    let told = check_seal(asked, found.format, found.touches.len() as u32, bytes)?;
-    let text = text_of(alloc, &found, &revisions, &told)?;
+    check_header(asked, found.capacity, found.cards)?;
+    let told = check_seal(&asked.seal, found.format, found.touches.len() as u32, bytes)?;
+    let header = header_lines(alloc, &found)?;
+    let text = text_of(alloc, header.as_str(), &found, &revisions, &told)?;
     Ok((text, finding_of(found.behind)))
 }

@@ -19,7 +19,7 @@ returns-in_err-totals-clause-fault g c =
     let told = rw c.deref.ensures.value at c.in_err-totals.ensures in
     handed-on _ c.from_residual-in_err-totals.result (audit_fault c.in_err-totals.field-0.0)
     c.from_residual-in_err-totals.ensures.1
-    (inr (
+    (inr (inl (
       c.in_err-totals.field-0.0,
       refl,
       record {
@@ -27,11 +27,11 @@ returns-in_err-totals-clause-fault g c =
         named = named;
         says = record { bytes = c.in_ok-bytes.bytes.items; given = c.in_ok-bytes.ensures.ok; says = told };
       },
-    ))
+    )))
 
--- they were told whole
-pub returns-clause-ok : goal.returns-clause-ok
-returns-clause-ok g c =
+-- they were told whole, and so were the sums
+pub returns-in-Ok-clause-ok : goal.returns-in-Ok-clause-ok
+returns-in-Ok-clause-ok g c =
     let named = rw c.as_slice.ensures.value at c.in_ok-schedule.ensures.ok in
     let told = rw c.deref.ensures.value at c.in_ok-totals.ensures in
     record {
@@ -43,3 +43,22 @@ returns-clause-ok g c =
         says = record { text = told.text; appended = told.appended; says = (c.in_ok-totals.totals, told.says) };
       };
     }
+
+-- they were told whole, and the sums weren't
+pub returns-clause-fault : goal.returns-clause-fault
+returns-clause-fault g c =
+    let named = rw c.as_slice.ensures.value at c.in_ok-schedule.ensures.ok in
+    let told = rw c.deref.ensures.value at c.in_ok-totals.ensures in
+    inr (inr (
+      c.sums_fault.ensures.0,
+      c.sums_fault.ensures.1,
+      record {
+        tables = tables_in c.in_ok-schedule.schedule;
+        named = named;
+        says = record {
+          bytes = c.in_ok-bytes.bytes.items;
+          given = c.in_ok-bytes.ensures.ok;
+          says = record { text = told.text; appended = told.appended; says = (c.in_ok-totals.totals, told.says) };
+        };
+      },
+    ))

@@ -1,4 +1,4 @@
-use Rattle.std.proofs.Common.{◌≡◌, List, map, Option, ap, ◌∙◌, sym, option_map, slice_get}
+use Rattle.std.proofs.Common.{◌≡◌, List, map, ap, ◌∙◌, sym, option_map, slice_get}
 use Rattle.std.proofs.lemmas.Option.{slice_get-map}
 use Rattle.oyster_account.specs.declared.reply.Judged.{Judged}
 use Rattle.reply_book.specs.declared.entry.Entry.{Entry}

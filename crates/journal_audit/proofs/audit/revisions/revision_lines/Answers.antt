@@ -1,4 +1,4 @@
-use Rattle.std.proofs.Common.{◌≡◌, ◌<◌, ◌++◌, length, option_map, sym, ◌∙◌, arith}
+use Rattle.std.proofs.Common.{◌<◌, length, option_map, sym, ◌∙◌, arith}
 use Rattle.oyster_account.specs.declared.touch.Touch.{Touch}
 use Rattle.oyster_account.specs.declared.touch.Act.TheVariants.{Enter}
 use Rattle.reply_book.specs.Book.{entries_of}

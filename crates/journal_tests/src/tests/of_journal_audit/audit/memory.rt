@@ -46,7 +46,7 @@ fn attempt(
         bytes: [0; 512],
         size: 0,
     };
-    let ended = audit_journal(alloc, schedule, Seal::Made, &bytes, &mut room);
+    let ended = audit_journal(alloc, schedule, SEALED, &bytes, &mut room);
     let taken = room.bytes.get(..room.size).unwrap_or(&[]);
     if ended.is_ok() {
         assert_same(rt, taken.ends_with(b"\nsound\n"), true);

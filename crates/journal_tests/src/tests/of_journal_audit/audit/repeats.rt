@@ -30,11 +30,11 @@ fn a_gate_and_number_that_stood_before_is_damage(rt: HostRuntime) -> Result<(), 
         match place {
             None => {
                 let last = "touches 3\nroom 2\ntrailing 1\nsound\n";
-                assert_sound(&rt, Seal::Unasked, &bytes, last)?;
+                assert_sound(&rt, SOUND, &bytes, last)?;
             }
             Some(place) => {
                 let damaged = AuditFault::Journal(JournalFault::Damaged(place));
-                assert_refused(&rt, Seal::Unasked, &bytes, damaged)?;
+                assert_refused(&rt, SOUND, &bytes, damaged)?;
             }
         }
     }

@@ -44,7 +44,7 @@ fn over(bytes: [u8; 193], at: usize, piece: &[u8]) -> [u8; 193] {
 fn ended(alloc: Global, bytes: &[u8]) -> Option<Result<Finding, AuditFault>> {
     let schedule = example(alloc)?;
     let mut written = Vec::new(alloc);
-    Some(audit_journal(alloc, Some(schedule), Seal::Unasked, bytes, &mut written))
+    Some(audit_journal(alloc, Some(schedule), SOUND, bytes, &mut written))
 }
 
 #[test]
@@ -71,7 +71,7 @@ fn the_first_touch_that_no_opening_enters_is_told(rt: HostRuntime) -> Result<(),
     let missing = AuditFault::Journal(JournalFault::MissingTable(1));
     assert_same(&rt, ended(alloc, &revised).ok_or("tables")?, Err(missing));
     // Where no table is named, no revision is looked up.
-    assert_sound(&rt, Seal::Unasked, &revised, "\nsound\n")
+    assert_sound(&rt, SOUND, &revised, "\nsound\n")
 }
 
 /// The journal whose second touch is a revision to the example table, from 2025-01-07 on.
@@ -86,16 +86,10 @@ fn revisions_have_their_lines(rt: HostRuntime) -> Result<(), Fail> {
     let line = "\nrevision 1 2025-01-07 \
         1708bef1d8124f49753d74c29fa7192b3da703a42481f59504b76a41ec002428";
     let alone = format!(in alloc; "{line}\nsound\n")?;
-    assert_sound(&rt, Seal::Unasked, &revised(), alone.as_str())?;
+    assert_sound(&rt, SOUND, &revised(), alone.as_str())?;
     let schedule = example(alloc).ok_or("tables")?;
     let mut written = Vec::new(alloc);
-    let ended = audit_journal(
-        alloc,
-        Some(schedule),
-        Seal::Unasked,
-        &revised(),
-        &mut written,
-    );
+    let ended = audit_journal(alloc, Some(schedule), SOUND, &revised(), &mut written);
     assert_same(&rt, ended, Ok(Finding::Sound));
     let judged = format!(in alloc; "{line} Revised\nsound\n")?;
     let text = String::from_utf8(written).ok().ok_or("a text")?;

@@ -11,11 +11,11 @@ const REVISIONS: [&str; 2] = [
     1708bef1d8124f49753d74c29fa7192b3da703a42481f59504b76a41ec00242800004e7f677b8d80",
 ];
 
-/// Their rows behind the four first touches.
+/// Their rows behind the four first touches. The card number 9 that they carry is no card's.
 const REVISED: [&str; 2] = [
-    "4,2025-01-06T08:00:00Z,2025-01-07,7,9,9,revision,\
+    "4,2025-01-06T08:00:00Z,2025-01-07,7,9,,revision,\
     1708bef1d8124f49753d74c29fa7192b3da703a42481f59504b76a41ec002428,,Revised,0,0",
-    "5,2025-01-06T08:00:00Z,2025-01-07,7,10,9,revision,\
+    "5,2025-01-06T08:00:00Z,2025-01-07,7,10,,revision,\
     1708bef1d8124f49753d74c29fa7192b3da703a42481f59504b76a41ec002428,,BadDay,0,0",
 ];
 
@@ -191,6 +191,33 @@ fn a_revision_stands_under_its_own_day(rt: HostRuntime) -> Result<(), Fail> {
     }
     let bytes = revised_journal(alloc)?;
     assert_told(&rt, ALL, HistoryFormat::Csv, &bytes, rows.as_str())
+}
+
+#[test]
+fn a_card_above_those_of_the_journal_is_told_with_their_number(
+    rt: HostRuntime,
+) -> Result<(), Fail> {
+    let alloc = rt.alloc();
+    let bytes = journal(alloc, false, &FRAMES).ok_or("a journal")?;
+    for (card, want) in [
+        (10, Ok(())),
+        (
+            11,
+            Err(AuditFault::Card {
+                card: 11,
+                cards: 10,
+            }),
+        ),
+    ] {
+        let wanted = Wanted {
+            card: Some(card),
+            day: None,
+        };
+        let (text, ended) = told(alloc, wanted, HistoryFormat::Frames, &bytes)?;
+        assert_same(&rt, ended, want);
+        assert_same(&rt, text.as_str(), "");
+    }
+    Ok(())
 }
 
 #[test]

@@ -5,12 +5,12 @@ use Rattle.reply_book.specs.Tables.{tables_in}
 use Rattle.journal_commands.specs.Command.{audit_fault}
 use Rattle.journal_commands.specs.Verified.{status_of}
 use Rattle.journal_commands.proofs.WordLemmas.{handed-on}
-use Rattle.journal_commands.proofs.audit.verify_journal.Goals as goal
+use Rattle.journal_commands.proofs.audit.verify_station.Goals as goal
 
 -- the audit of the words' journal, by their tables and seal, ended early
 pub returns-in_err-found-clause-fault : goal.returns-in_err-found-clause-fault
 returns-in_err-found-clause-fault g c =
-    let sealed = rw c.seal_of-seal.ensures at c.in_err-found.ensures in
+    let sealed = rw c.asked_of-wanted.ensures at c.in_err-found.ensures in
     let told = rw c.deref.ensures.value at sealed in
     handed-on _ c.from_residual-in_err-found.result (audit_fault c.in_err-found.field-0.0)
     c.from_residual-in_err-found.ensures.1
@@ -27,7 +27,7 @@ returns-in_err-found-clause-fault g c =
 -- a sound journal was told whole, and the status is that of what was found
 pub returns-clause-ok : goal.returns-clause-ok
 returns-clause-ok g c =
-    let sealed = rw c.seal_of-seal.ensures at c.in_ok-found.ensures in
+    let sealed = rw c.asked_of-wanted.ensures at c.in_ok-found.ensures in
     let told = rw c.deref.ensures.value at sealed in
     let status : exit_status c.from.result ≡ status_of c.in_ok-found.found = c.from.ensures ∙ c.status_of.ensures in
     record {
