@@ -3,12 +3,14 @@ use Rattle.std.specs.Prelude.{◌≡◌, ◌≤◌, ℕ, IfSome, length}
 use Rattle.command_line.specs.declared.arguments.Arguments.{Arguments}
 use Rattle.command_line.specs.declared.arguments.Arguments.TheVariants as asked
 use Rattle.command_line.specs.declared.arguments.Serve.{Serve}
+use Rattle.command_line.specs.declared.arguments.Verify.{Verify}
 use Rattle.command_line.specs.declared.balances.Balances.{Balances}
 use Rattle.command_line.specs.declared.check.Check.{Check}
+use Rattle.command_line.specs.declared.check.Check.TheVariants as checks
 use Rattle.command_line.specs.declared.check.Journey.{Journey}
 use Rattle.command_line.specs.declared.history.History.{History}
 use Rattle.command_line.specs.declared.seal.Seal.{Seal}
-use Rattle.command_line.specs.declared.seal.Seal.TheVariants.{Unasked, Made, Kept}
+use Rattle.command_line.specs.declared.seal.Sealed.{Sealed}
 
 -- the number is from 1 to this limit
 abbrev pub IsWithin : ℕ → ℕ → Type 0
@@ -25,11 +27,19 @@ pub record IsServeAllowed (serve : Serve) : Type 0 where
   pub idle : IfSome serve.idle (IsWithin 1_000_000)
   pub report : IfSome serve.report (IsWithin 1_000_000)
 
--- a seal that is held against is of at most 1,000,000 touches, and its digest has 32 bytes
+-- a seal is of at most 1,000,000 touches, and its digest has 32 bytes
+abbrev pub IsSealedAllowed : Sealed → Type 0
+IsSealedAllowed sealed = (sealed.touches ≤ 1_000_000) × (length sealed.digest ≡ 32)
+
+-- a journal is held against such a seal, if against any
 abbrev pub IsSealAllowed : Seal → Type 0
-IsSealAllowed Unasked = Unit {0}
-IsSealAllowed Made = Unit {0}
-IsSealAllowed (Kept touches digest) = (touches ≤ 1_000_000) × (length digest ≡ 32)
+IsSealAllowed seal = IfSome seal.kept IsSealedAllowed
+
+-- a journal is verified with such a seal, and with numbers that a station's journal may have
+pub record IsVerifyAllowed (verify : Verify) : Type 0 where
+  pub seal : IsSealAllowed verify.seal
+  pub cards : IfSome verify.expect_cards (IsWithin 100_000)
+  pub capacity : IfSome verify.expect_capacity (IsWithin 1_000_000)
 
 -- a card has one of 100,000 numbers
 abbrev pub IsHistoryAllowed : History → Type 0
@@ -46,7 +56,9 @@ pub record IsJourneyAllowed (journey : Journey) : Type 0 where
 
 -- a check is of such a journey, if of any
 abbrev pub IsCheckAllowed : Check → Type 0
-IsCheckAllowed check = IfSome check.journey IsJourneyAllowed
+IsCheckAllowed (checks.Report table strict) = Unit {0}
+IsCheckAllowed (checks.Fare table journey) = IsJourneyAllowed journey
+IsCheckAllowed (checks.Changes before after) = Unit {0}
 
 -- so it is of each command
 abbrev pub IsAllowed : Arguments → Type 0
@@ -54,6 +66,6 @@ IsAllowed (asked.Replay table cards revisions) = IsWithin 100_000 cards
 IsAllowed (asked.Check check) = IsCheckAllowed check
 IsAllowed (asked.Serve serve) = IsServeAllowed serve
 IsAllowed (asked.Migrate migrate) = IsWithin 100_000 migrate.cards
-IsAllowed (asked.Verify verify) = IsSealAllowed verify.seal
+IsAllowed (asked.Verify verify) = IsVerifyAllowed verify
 IsAllowed (asked.History history) = IsHistoryAllowed history
 IsAllowed (asked.Balances balances) = IsBalancesAllowed balances

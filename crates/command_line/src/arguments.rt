@@ -3,11 +3,12 @@
 ghost use Rattle.std.specs.Prelude.{◌≡◌, ◌≤◌, IfOk, IfSome};
 ghost use Rattle.clap.specs.Values.{kind_of};
 ghost use Rattle.clap.specs.declared.error.kind.ErrorKind.TheVariants.{InvalidSubcommand, InvalidValue};
-ghost use Rattle.command_line.specs.Arguments.{IsAllowed, IsServeAllowed, IsWithin};
+ghost use Rattle.command_line.specs.Arguments.{IsAllowed, IsServeAllowed, IsVerifyAllowed};
+ghost use Rattle.command_line.specs.Arguments.{IsWithin};
 
 use crate::balances::{Balances, balances_asked};
 use crate::check::{Check, check_asked};
-use crate::commands::command;
+use crate::commands::{command, command_named};
 use crate::history::{History, history_asked};
 use crate::seal::{Seal, seal_asked};
 use clap::error::ErrorKind;
@@ -108,14 +109,20 @@ pub struct Verify<'a> {
     pub revisions: Vec<&'a str>,
     /// The seal.
     pub seal: Seal,
+    /// How many cards the journal has to be of, where that is asked for.
+    pub expect_cards: Option<u32>,
+    /// For how many touches the journal has to have room in all, where that is asked for.
+    pub expect_capacity: Option<u32>,
+    /// Of which gate it has to be the file, where the journal is a gate's. No table is named then.
+    pub gate: Option<u16>,
 }
 
 /// What stands for a number that has a sign.
 const NOT_DECIMAL: &str = "a number is written in the digits 0 to 9 alone";
 
-/// What stands for a seal that is none.
-const NOT_A_SEAL: &str =
-    "a seal is a number from 0 to 1000000 in the digits 0 to 9, and 64 hexadecimal digits";
+/// What stands for a seal that is none, or a number that has a sign.
+const NOT_A_SEAL: &str = "a number is written in the digits 0 to 9 alone, a gate's is from 0 to \
+65535, and a seal is a number from 0 to 1000000 and 64 hexadecimal digits";
 
 /// What stands for a card's number that has a sign, or a day that is no date.
 const NOT_A_CARD_OR_DAY: &str =
@@ -159,17 +166,29 @@ fn asked_of<'a>(
     let matches = command.try_get_matches_from_mut(words)?;
     match asked(alloc, &matches)? {
         Some(asked) => Ok(asked),
-        None => Err(command.error(ErrorKind::InvalidValue, refused_by(&matches))?),
+        None => Err(refusal(alloc, &matches)?),
     }
 }
 
-/// What is said of the matches of a command whose values ask for nothing.
-fn refused_by(matches: &ArgMatches<'_>) -> &'static str {
-    match matches.subcommand() {
-        Some(("check", _)) => NOT_A_JOURNEY,
-        Some(("verify", _)) => NOT_A_SEAL,
-        Some(("history", _)) => NOT_A_CARD_OR_DAY,
-        Some(("balances", _)) => NOT_A_COUNT,
+/// The refusal of a command line whose values ask for nothing, with the usage of its command.
+fn refusal(alloc: Global, matches: &ArgMatches<'_>) -> Result<Error, Error>
+    ensures { IfOk result (λ error. kind_of error ≡ InvalidValue) }
+{
+    let name = match matches.subcommand() {
+        Some((name, _)) => name,
+        None => "",
+    };
+    let mut command = command_named(alloc, name)?;
+    Ok(command.error(ErrorKind::InvalidValue, refused_by(name))?)
+}
+
+/// What is said of the command of this name whose values ask for nothing.
+fn refused_by(name: &str) -> &'static str {
+    match name {
+        "check" => NOT_A_JOURNEY,
+        "verify" => NOT_A_SEAL,
+        "history" => NOT_A_CARD_OR_DAY,
+        "balances" => NOT_A_COUNT,
         _ => NOT_DECIMAL,
     }
 }
@@ -321,12 +340,33 @@ fn verify_asked<'a>(matches: &ArgMatches<'a>, revisions: Vec<&'a str>) -> Option
     let journal = matches.get_str("journal")?;
     let table = matches.get_str("table");
     let seal = seal_asked(matches)?;
+    let expect_cards = number_given(matches, "expect-cards", CARDS_LIMIT)?;
+    let expect_capacity = number_given(matches, "expect-capacity", CAPACITY_LIMIT)?;
+    let gate = gate_asked(matches)?;
     Some(Arguments::Verify(Verify {
         journal,
         table,
         revisions,
         seal,
+        expect_cards,
+        expect_capacity,
+        gate,
     }))
+}
+
+/// The gate whose file is verified, where one is named. `None` where its number is none.
+fn gate_asked(matches: &ArgMatches<'_>) -> Option<Option<u16>> {
+    match matches.get_str("gate") {
+        Some(text) => Some(Some(gate_in(text)?)),
+        None => Some(None),
+    }
+}
+
+/// The number of a gate that a text is, in decimal digits alone.
+fn gate_in(text: &str) -> Option<u16> {
+    let gate = text.parse::<u16>().ok()?;
+    let is_decimal = text.bytes().all(|byte| byte.is_ascii_digit());
+    if is_decimal { Some(gate) } else { None }
 }
 
 /// The history that the matches of its command ask for.

@@ -11,13 +11,14 @@ const DAY_SECONDS: i64 = 86_400;
 
 /// What the check of a fare table is asked for.
 #[derive(Clone, Copy, Debug, PartialEq, Eq)]
-pub struct Check<'a> {
-    /// The path of the fare table.
-    pub table: &'a str,
-    /// Whether a table with notes counts as a refused one.
-    pub strict: bool,
-    /// The journey of which the fare is asked, in place of a report.
-    pub journey: Option<Journey>,
+pub enum Check<'a> {
+    /// Whether the table in the file of this path is valid, and where `strict` that there is no note
+    /// on it either.
+    Report { table: &'a str, strict: bool },
+    /// What a journey costs by the table in the file of this path.
+    Fare { table: &'a str, journey: Journey },
+    /// What the table in one file changes of that in another, and whether it may revise it.
+    Changes { old: &'a str, new: &'a str },
 }
 
 /// A journey of which the fare is asked.
@@ -35,14 +36,25 @@ pub struct Journey {
 pub(crate) fn check_asked<'a>(matches: &ArgMatches<'a>) -> Option<Check<'a>>
     ensures { IfSome result IsCheckAllowed }
 {
+    match matches.get_strs("against") {
+        Some([old, new]) => Some(Check::Changes { old, new }),
+        Some(_) => None,
+        None => table_check_asked(matches),
+    }
+}
+
+/// The check of one table that the matches of its command ask for.
+fn table_check_asked<'a>(matches: &ArgMatches<'a>) -> Option<Check<'a>>
+    ensures { IfSome result IsCheckAllowed }
+{
     let table = matches.get_str("table")?;
-    let strict = matches.get_flag("strict");
-    let journey = journey_asked(matches)?;
-    Some(Check {
-        table,
-        strict,
-        journey,
-    })
+    match journey_asked(matches)? {
+        Some(journey) => Some(Check::Fare { table, journey }),
+        None => Some(Check::Report {
+            table,
+            strict: matches.get_flag("strict"),
+        }),
+    }
 }
 
 /// The journey that is asked for, where one is. `None` where it is written otherwise than by two

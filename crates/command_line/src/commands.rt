@@ -71,10 +71,12 @@ enum Takes {
 enum Rule {
     /// Always.
     Required,
+    /// Where the parameter of this name doesn't stand.
+    Unless(&'static str),
     /// Never.
     Optional,
-    /// Never, and it may not stand beside the parameter of this name.
-    Without(&'static str),
+    /// Never, and it may not stand beside the parameters of these names.
+    Without(&'static [&'static str]),
     /// Never, and where it stands the parameter of this name has to.
     With(&'static str),
 }
@@ -90,6 +92,17 @@ pub(crate) fn command<'a>(alloc: Global) -> Result<Command<'a>, Error> {
         command = with_command(alloc, command, described)?;
     }
     Ok(command)
+}
+
+/// The command of this name by itself, as it is told of; without one the program's command line.
+pub(crate) fn command_named<'a>(alloc: Global, name: &str) -> Result<Command<'a>, Error> {
+    for described in &COMMANDS {
+        if described.name == name {
+            let told = format!(in alloc; "{NAME} {name}")?;
+            return Ok(command_of(alloc, described)?.bin_name(&told)?);
+        }
+    }
+    command(alloc)
 }
 
 /// The command line with a command.
@@ -129,8 +142,9 @@ fn arg_of<'a>(alloc: Global, parameter: &Parameter) -> Result<Arg<'a>, AllocErro
     let arg = taking(alloc, parameter).help(parameter.help);
     match parameter.rule {
         Rule::Required => Ok(arg.required(true)),
+        Rule::Unless(other) => arg.required_unless_present(other),
         Rule::Optional => Ok(arg),
-        Rule::Without(other) => arg.conflicts_with(other),
+        Rule::Without(others) => arg.conflicts_with_all(others),
         Rule::With(other) => arg.requires_arg(other),
     }
 }

@@ -16,4 +16,4 @@ pub use arguments::{
 pub use balances::Balances;
 pub use check::{Check, Journey};
 pub use history::{History, HistoryFormat};
-pub use seal::Seal;
+pub use seal::{Seal, Sealed};

@@ -3,7 +3,7 @@
 ghost use Rattle.std.specs.Prelude.{◌≡◌, IfSome, Ok};
 ghost use Rattle.hex.specs.Hex.{decode_sized};
 ghost use Rattle.command_line.specs.declared.seal.TheConstants.{SEAL_SIZE};
-ghost use Rattle.command_line.specs.Arguments.{IsSealAllowed};
+ghost use Rattle.command_line.specs.Arguments.{IsSealAllowed, IsSealedAllowed};
 
 use crate::arguments::count_in;
 use clap::ArgMatches;
@@ -14,37 +14,49 @@ pub const SEAL_SIZE: usize = 32;
 
 /// What is asked of the seal of a journal.
 #[derive(Clone, Copy, Debug, PartialEq, Eq)]
-pub enum Seal {
-    /// Nothing.
-    Unasked,
-    /// That it is made, of all touches.
-    Made,
-    /// That it is held against one that was made of so many touches.
-    Kept {
-        touches: u32,
-        digest: [u8; SEAL_SIZE],
-    },
+pub struct Seal {
+    /// Whether one is made, of all touches.
+    pub made: bool,
+    /// The seal that the journal is held against, where there is one.
+    pub kept: Option<Sealed>,
+}
+
+/// A seal that was made.
+#[derive(Clone, Copy, Debug, PartialEq, Eq)]
+pub struct Sealed {
+    /// How many touches it was made of.
+    pub touches: u32,
+    /// The digest of the header and their slots.
+    pub digest: [u8; SEAL_SIZE],
 }
 
 /// The seal that the matches of a command ask for. `None` where a seal is named that is none.
 pub(crate) fn seal_asked(matches: &ArgMatches<'_>) -> Option<Seal>
     ensures { IfSome result IsSealAllowed }
 {
+    let made = matches.get_flag("seal");
+    let kept = kept_asked(matches)?;
+    Some(Seal { made, kept })
+}
+
+/// The seal that a journal is held against, where one is named. `None` where it is none.
+fn kept_asked(matches: &ArgMatches<'_>) -> Option<Option<Sealed>>
+    ensures { IfSome result (λ kept. IfSome kept IsSealedAllowed) }
+{
     match matches.get_strs("sealed") {
-        Some([touches, digest]) => kept_seal(touches, digest),
+        Some([touches, digest]) => Some(Some(sealed_in(touches, digest)?)),
         Some(_) => None,
-        None if matches.get_flag("seal") => Some(Seal::Made),
-        None => Some(Seal::Unasked),
+        None => Some(None),
     }
 }
 
 /// The seal of so many touches with this digest, as they are written.
-fn kept_seal(touches: &str, digest: &str) -> Option<Seal>
-    ensures { IfSome result IsSealAllowed }
+fn sealed_in(touches: &str, digest: &str) -> Option<Sealed>
+    ensures { IfSome result IsSealedAllowed }
 {
     let touches = count_in(touches)?;
     let digest = digest_in(digest)?;
-    Some(Seal::Kept { touches, digest })
+    Some(Sealed { touches, digest })
 }
 
 /// The digest that a text of hexadecimal digits is, in either case.

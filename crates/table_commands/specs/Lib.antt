@@ -8,3 +8,4 @@ pub mod Replay
 pub mod Check
 pub mod Place
 pub mod Fare
+pub mod Changes

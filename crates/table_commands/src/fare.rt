@@ -47,7 +47,7 @@ pub fn tell_fare<F: WholeFiles, W: Write>(
 }
 
 /// Writes a text. The fault is that of the writing.
-fn write_fare<W: Write>(writer: &mut W, text: &str) -> Result<(), RunFault>
+pub(crate) fn write_fare<W: Write>(writer: &mut W, text: &str) -> Result<(), RunFault>
     ensures ok { OnOk result (Appends (W.contents writer.old) (W.contents writer.new) text.now) }
     ensures fault { IfErr result (λ fault. fault ≡ WriteFailed) }
 {

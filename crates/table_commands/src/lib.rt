@@ -3,6 +3,7 @@
 //! which table a file gives, and in which words a fault is told (`TrialFault`).
 #![tactic(auto)]
 
+mod changes;
 mod detail;
 mod fare;
 mod fault;
@@ -14,6 +15,7 @@ mod replay;
 mod tables;
 mod words;
 
+pub use changes::tell_changes;
 pub use detail::Detail;
 pub use fare::tell_fare;
 pub use fault::{TrialFault, tell_fault};

@@ -1,3 +1,4 @@
 pub mod Survey
 pub mod Place
 pub mod Found
+pub mod Changes

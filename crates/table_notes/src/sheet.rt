@@ -9,10 +9,11 @@ use crate::above::{Above, first_above};
 use crate::misread::line_behind;
 use crate::pieces::{Piece, pieces_of};
 use crate::places::{Wanted, place_of};
+use crate::reading::{Said, reading_of};
 use crate::rows::{has_pair, naming, row_before};
 use crate::survey::{SurveyFault, tree_of};
 use crate::tree::{member_in, row_at, value_at};
-use std::alloc::Global;
+use std::alloc::{AllocError, Global};
 use toml::{Table, Value};
 
 /// A text that is a TOML document, to be asked what stands where. It needn't be a valid fare table.
@@ -97,6 +98,12 @@ impl<'a> Sheet<'a> {
     /// it.
     pub fn naming(&self, station: u16) -> Option<Wanted> {
         naming(&self.tree, i64::from(station))
+    }
+
+    /// What the table says at each place, in the order of docs/TABLE.md: its own keys, its rows and
+    /// its holidays. Keys that nobody knows aren't read. An `Err` is want of memory.
+    pub fn reading(&self, alloc: Global) -> Result<Vec<Said>, AllocError> {
+        reading_of(alloc, &self.tree)
     }
 
     /// Whether a pair names these two stations, in either order.

@@ -2,12 +2,13 @@
 //! journal and without a server. It reads its command line, calls what is proved, and prints.
 #![tactic(auto)]
 
-use command_line::{Arguments, arguments_of, refuse_command};
+use command_line::{Arguments, Check, arguments_of, refuse_command};
 use std::io;
 use std::process::ExitCode;
 use std::rt::{Env, Files};
 use table_commands::{
-    SystemFiles, TrialFault, check_file, replay_input, tell_fare, tell_fault, words_of,
+    SystemFiles, TrialFault, check_file, replay_input, tell_changes, tell_fare, tell_fault,
+    words_of,
 };
 
 fn main(rt: HostRuntime) -> io::Result<ExitCode> {
@@ -40,10 +41,15 @@ fn run<R: AllocGlobal + Env + Files + Input + Print + Eprint>(
             &mut rt.reader(),
             &mut output,
         ),
-        Arguments::Check(asked) => match asked.journey {
-            Some(journey) => tell_fare(rt.alloc(), &files, asked.table, journey, &mut output),
-            None => check_file(rt, &files, asked.table, asked.strict, &mut output),
-        },
+        Arguments::Check(Check::Report { table, strict }) => {
+            check_file(rt, &files, table, strict, &mut output)
+        }
+        Arguments::Check(Check::Fare { table, journey }) => {
+            tell_fare(rt.alloc(), &files, table, journey, &mut output)
+        }
+        Arguments::Check(Check::Changes { old, new }) => {
+            tell_changes(rt.alloc(), &files, old, new, &mut output)
+        }
         _ => Err(TrialFault::Line(refuse_command(rt.alloc())?)),
     }
 }

@@ -15,17 +15,18 @@ mod watch;
 use crate::journals::{balances, history, migrate, verify};
 use crate::server::serve_gates;
 use crate::standard::standard_files;
-use command_line::{Arguments, arguments_of};
-use journal_commands::{CommandFault, tell_command_fault};
+use command_line::{Arguments, Check, arguments_of};
+use journal_commands::{CommandFault, Output, ended_by, tell_command_fault};
 use std::fs::File;
 use std::io;
+use std::io::Write;
 use std::net::{Net, TcpListener, TcpStream};
 use std::process::ExitCode;
 use std::rt::{Env, Files};
 use std::sync::Wait;
 use std::thread::Threads;
 use std::time::Clock;
-use table_commands::{SystemFiles, check_file, replay_input, tell_fare, words_of};
+use table_commands::{SystemFiles, check_file, replay_input, tell_changes, tell_fare, words_of};
 
 fn main(rt: HostRuntime) -> io::Result<ExitCode> {
     match run(&rt) {
@@ -34,7 +35,8 @@ fn main(rt: HostRuntime) -> io::Result<ExitCode> {
     }
 }
 
-/// Does what the command line asks for, and answers the status.
+/// Does what the command line asks for, and answers the status. What standard output refuses is told
+/// with its reason, and nothing is told where nobody reads it any more.
 fn run<
     R: AllocGlobal
         + Env
@@ -48,10 +50,31 @@ fn run<
         + Wait
         + Sync,
 >(rt: &R) -> Result<ExitCode, CommandFault> {
+    let mut output = Output::over(io::writer(rt));
+    match done(rt, &mut output) {
+        Ok(status) => Ok(status),
+        Err(fault) => ended_by(rt.alloc(), output.refusal(), fault),
+    }
+}
+
+/// Does what the command line asks for, with standard output, and answers the status.
+fn done<
+    R: AllocGlobal
+        + Env
+        + Files<File = File>
+        + Input
+        + Print
+        + Eprint
+        + Net<Listener = TcpListener, Stream = TcpStream>
+        + Clock
+        + Threads
+        + Wait
+        + Sync,
+    W: Write,
+>(rt: &R, output: &mut W) -> Result<ExitCode, CommandFault> {
     let words = words_of(rt)?;
     let words: Vec<&str> = words.iter().map(|word| word.as_str()).collect(rt.alloc())?;
     let files = SystemFiles::new(rt);
-    let mut output = io::writer(rt);
     match arguments_of(rt.alloc(), words.as_slice())? {
         Arguments::Replay {
             table,
@@ -64,19 +87,24 @@ fn run<
             revisions.as_slice(),
             cards,
             &mut rt.reader(),
-            &mut output,
+            output,
         )?),
-        Arguments::Check(asked) => Ok(match asked.journey {
-            Some(journey) => tell_fare(rt.alloc(), &files, asked.table, journey, &mut output)?,
-            None => check_file(rt, &files, asked.table, asked.strict, &mut output)?,
-        }),
+        Arguments::Check(Check::Report { table, strict }) => {
+            Ok(check_file(rt, &files, table, strict, output)?)
+        }
+        Arguments::Check(Check::Fare { table, journey }) => {
+            Ok(tell_fare(rt.alloc(), &files, table, journey, output)?)
+        }
+        Arguments::Check(Check::Changes { old, new }) => {
+            Ok(tell_changes(rt.alloc(), &files, old, new, output)?)
+        }
         Arguments::Serve(asked) => {
             let _held = standard_files(rt);
             serve_gates(rt, &asked)
         }
-        Arguments::Migrate(asked) => migrate(rt, &files, &asked, &mut output),
-        Arguments::Verify(asked) => verify(rt, &files, &asked, &mut output),
-        Arguments::History(asked) => history(rt, &files, &asked, &mut output),
-        Arguments::Balances(asked) => balances(rt, &files, &asked, &mut output),
+        Arguments::Migrate(asked) => migrate(rt, &files, &asked, output),
+        Arguments::Verify(asked) => verify(rt, &files, &asked, output),
+        Arguments::History(asked) => history(rt, &files, &asked, output),
+        Arguments::Balances(asked) => balances(rt, &files, &asked, output),
     }
 }

@@ -19,9 +19,7 @@ use fare_schedule::Schedule;
 use gate_service::{
     GateLine, Lines, Notices, Post, ServeFault, TcpLines, Watch, Watched, serve_office,
 };
-use journal_commands::{
-    CommandFault, OpenedBy, explained, listen_fault, look_behind, slots_behind, tell_behind,
-};
+use journal_commands::{CommandFault, OpenedBy, explained, listen_fault, look_at_end};
 use line_replay::RunFault;
 use money_time::Zone;
 use std::alloc::Global;
@@ -142,9 +140,7 @@ fn serve_opening<
         Ok(made) => made,
         Err(fault) => return Err(fault.cause.into()),
     };
-    let behind = slots_behind(rt, asked.journal, office.opened());
-    look_behind(alloc, asked.journal, behind, asked.strict)?;
-    tell_behind(rt, behind);
+    look_at_end(rt, &SystemFiles::new(rt), asked.journal, asked.strict)?;
     let watching = Watching {
         watched: watched_by(asked, capacity, office.opened(), zone),
         failure,

@@ -1,7 +1,7 @@
 //! The commands that read a journal alone.
 
 use super::{Described, Parameter, Rule, Takes};
-use crate::arguments::CARDS_LIMIT;
+use crate::arguments::{CAPACITY_LIMIT, CARDS_LIMIT};
 use crate::history::FORMATS;
 
 /// What `verify` does.
@@ -14,7 +14,13 @@ const VERIFY_EXAMPLE: &str = "Example:
 Example, with the tables that the journal names, and a seal of its touches:
   bovtrila verify --journal station.journal --table fares.toml --seal fares-2026.toml
 
-The journal is read alone, and stays as it is. A server may go on with it.
+Example, by what the station's papers say:
+  bovtrila verify --journal station.journal --expect-cards 1000 --expect-capacity 1000000
+
+Example, the file of a gate:
+  bovtrila verify --journal gate-7.journal --gate 7
+
+The journal is only read, and stays as it is. A server may go on with it.
 
 Statuses: 0 the journal is sound, 1 a fault (standard error has its line),
 2 a wrong command line, 3 sound, but more than one slot behind its end is open";
@@ -34,7 +40,7 @@ Example, a replay of the journal:
   bovtrila history --table fares.toml --journal station.journal --format frames |
     bovtrila replay --table fares.toml --cards 1000
 
-The journal is read alone, and stays as it is. A server may go on with it.
+The journal is only read, and stays as it is. A server may go on with it.
 
 Statuses: 0 the history is written, 1 a fault (standard error has its line),
 2 a wrong command line";
@@ -49,7 +55,7 @@ const BALANCES_EXAMPLE: &str = "Example:
 Example, after the first 5000 touches:
   bovtrila balances --table fares.toml --journal station.journal --at 5000
 
-The sums over all cards go to standard error. The journal is read alone, and stays as it is. A
+The sums over all cards go to standard error. The journal is only read, and stays as it is. A
 server may go on with it.
 
 Statuses: 0 each balance is what was paid in less what was charged, 1 a fault (standard error has
@@ -64,7 +70,16 @@ pub(super) const VERIFY: Described = Described {
     about: VERIFY_ABOUT,
     usage: None,
     example: VERIFY_EXAMPLE,
-    parameters: &[JOURNAL, HELD_AGAINST, SEAL, SEALED, NAMED_BESIDE],
+    parameters: &[
+        JOURNAL,
+        HELD_AGAINST,
+        SEAL,
+        SEALED,
+        EXPECT_CARDS,
+        EXPECT_CAPACITY,
+        GATE,
+        NAMED_BESIDE,
+    ],
 };
 
 /// The command `history`.
@@ -115,7 +130,7 @@ const NAMED: Parameter = Parameter {
     name: "revisions",
     takes: Takes::Revisions,
     rule: Rule::Optional,
-    help: NAMED_HELP,
+    help: "Files of further fare tables: all that the journal names",
 };
 
 /// The tables that a journal's revisions name, beside the first one.
@@ -123,17 +138,14 @@ const NAMED_BESIDE: Parameter = Parameter {
     name: "revisions",
     takes: Takes::Revisions,
     rule: Rule::With("table"),
-    help: NAMED_HELP,
+    help: "Files of further fare tables, with --table: all that the journal names",
 };
-
-/// The tables that a journal's revisions name.
-const NAMED_HELP: &str = "Files of further fare tables: all that the journal names";
 
 /// What makes a seal.
 const SEAL: Parameter = Parameter {
     name: "seal",
     takes: Takes::Flag,
-    rule: Rule::Without("sealed"),
+    rule: Rule::Optional,
     help: "Writes a seal of the journal's touches: their number and a digest",
 };
 
@@ -143,7 +155,33 @@ const SEALED: Parameter = Parameter {
     takes: Takes::Pair(&SEAL_VALUES),
     rule: Rule::Optional,
     help: "Says whether the journal's first N touches are still those of a seal:
-N from 0 to 1000000, and 64 hexadecimal digits",
+N from 0 to 1000000, and 64 hexadecimal digits; with --seal
+a new seal is made of the same bytes",
+};
+
+/// How many cards a journal has to be of.
+const EXPECT_CARDS: Parameter = Parameter {
+    name: "expect-cards",
+    takes: Takes::Number("N", CARDS_LIMIT),
+    rule: Rule::Optional,
+    help: "Refuses a journal of another number of cards, from 1 to 100000",
+};
+
+/// For how many touches a journal has to have room in all.
+const EXPECT_CAPACITY: Parameter = Parameter {
+    name: "expect-capacity",
+    takes: Takes::Number("N", CAPACITY_LIMIT),
+    rule: Rule::Optional,
+    help: "Refuses a journal of another capacity, from 1 to 1000000",
+};
+
+/// The gate of which the journal is the file.
+const GATE: Parameter = Parameter {
+    name: "gate",
+    takes: Takes::Text("N"),
+    rule: Rule::Without(&["table", "revisions"]),
+    help: "Says whether the file is that of the gate of this number, from 0
+to 65535; not with --table: a gate has no fares",
 };
 
 /// Which card's touches are written.

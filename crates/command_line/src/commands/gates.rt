@@ -22,6 +22,10 @@ Statuses: 0 all lines are answered, 1 a fault (standard error has its line),
 /// What `check` does.
 const CHECK_ABOUT: &str = "Says whether a file is a valid fare table, or what is wrong with it";
 
+/// What a check is asked for: of one table, with at most one of two options, or of two.
+const CHECK_USAGE: &str = "bovtrila check --table <FILE> [--strict | --fare <FROM> <TO> <MOMENT>]
+       bovtrila check --against <OLD> <NEW>";
+
 /// How `check` is called, and how it ends.
 const CHECK_EXAMPLE: &str = "Example:
   bovtrila check --table fares.toml
@@ -29,11 +33,17 @@ const CHECK_EXAMPLE: &str = "Example:
 Example, what a journey from station 1 to station 3 costs that starts at this moment:
   bovtrila check --table fares.toml --fare 1 3 2025-01-07T08:30:00Z
 
-Statuses: 0 the table is valid, 1 it is refused or a fault came, or with --strict a note,
-2 a wrong command line";
+Example, what a new table changes, and whether fares may be revised to it:
+  bovtrila check --against fares.toml fares-2026.toml
+
+Statuses: 0 the table is valid, or with --against may revise the other; 1 it isn't or may not,
+or a fault came, or with --strict a note; 2 a wrong command line";
 
 /// What a journey is, as it is written.
 const JOURNEY_VALUES: [&str; 3] = ["FROM", "TO", "MOMENT"];
+
+/// What tables are compared, as they are written.
+const AGAINST_VALUES: [&str; 2] = ["OLD", "NEW"];
 
 /// What `serve` does.
 const SERVE_ABOUT: &str = "Serves gates over TCP, and keeps each touch in a journal";
@@ -49,8 +59,8 @@ const SERVE_EXAMPLE: &str =
   bovtrila serve --table fares.toml --journal station.journal --cards 1000 \\
     --capacity 1000000 --listen 127.0.0.1:4014 --lines 8
 
-Each later one has --strict. Further tables are the last words, and then have to be all that the
-journal names:
+Each later start has --strict, so that no new journal is made by mistake. The last words are
+further tables; all that the journal names have to stand there:
   bovtrila serve --table fares.toml --journal station.journal --cards 1000 \\
     --capacity 1000000 --listen 127.0.0.1:4014 --lines 8 --strict fares-2026.toml
 
@@ -64,7 +74,7 @@ const MIGRATE_ABOUT: &str = "Carries a journal of the first format over to a new
 const MIGRATE_EXAMPLE: &str = "Example:
   bovtrila migrate --table fares.toml --from station.journal --to new.journal --cards 1000
 
-The old journal is read alone, and stays as it is.
+The old journal is only read, and stays as it is.
 
 Statuses: 0 the new journal is whole, 1 a fault (standard error has its line),
 2 a wrong command line";
@@ -82,9 +92,9 @@ pub(super) const REPLAY: Described = Described {
 pub(super) const CHECK: Described = Described {
     name: "check",
     about: CHECK_ABOUT,
-    usage: None,
+    usage: Some(CHECK_USAGE),
     example: CHECK_EXAMPLE,
-    parameters: &[TABLE, STRICT_TABLE, FARE],
+    parameters: &[CHECKED, STRICT_TABLE, FARE, AGAINST],
 };
 
 /// The command `serve`.
@@ -94,7 +104,7 @@ pub(super) const SERVE: Described = Described {
     usage: Some(SERVE_USAGE),
     example: SERVE_EXAMPLE,
     parameters: &[
-        TABLE,
+        FIRST,
         JOURNAL,
         LISTEN,
         SERVE_CARDS,
@@ -119,22 +129,30 @@ pub(super) const MIGRATE: Described = Described {
     parameters: &[MADE_BY, FROM, TO, MADE_WITH],
 };
 
-/// The file of the fare table.
-const TABLE: Parameter = Parameter {
+/// The file of the fare table that is checked.
+const CHECKED: Parameter = Parameter {
+    name: "table",
+    takes: Takes::Text("FILE"),
+    rule: Rule::Unless("against"),
+    help: "The file of the fare table, in TOML",
+};
+
+/// The file of a station's first fare table.
+const FIRST: Parameter = Parameter {
     name: "table",
     takes: Takes::Text("FILE"),
     rule: Rule::Required,
-    help: "The file of the fare table, in TOML",
+    help: "The file of the station's first fare table, in TOML",
 };
 
 /// Whether notes count as faults.
 const STRICT_TABLE: Parameter = Parameter {
     name: "strict",
     takes: Takes::Flag,
-    rule: Rule::Without("fare"),
+    rule: Rule::Without(&["fare"]),
     help: "Ends with status 1 where there is a note on a valid table:
 an unknown or misplaced key, prices that may be pounds,
-or a cap below a single fare that it covers",
+or a cap below a single fare that it covers; not with --fare",
 };
 
 /// The journey of which the fare is asked.
@@ -144,7 +162,17 @@ const FARE: Parameter = Parameter {
     rule: Rule::Optional,
     help: "Writes what a journey between two stations costs that starts
 at a moment in UTC, as 2025-01-07T08:30:00Z, and why,
-in place of the report",
+in place of the report; not with --strict",
+};
+
+/// The tables that are compared.
+const AGAINST: Parameter = Parameter {
+    name: "against",
+    takes: Takes::Pair(&AGAINST_VALUES),
+    rule: Rule::Without(&["table", "strict", "fare"]),
+    help: "Writes what the table in the second file changes of that in
+the first, and whether fares may be revised to it;
+in place of --table, and with no other option",
 };
 
 /// The file of the fare table by which a replay answers.
@@ -176,7 +204,8 @@ const JOURNAL: Parameter = Parameter {
     name: "journal",
     takes: Takes::Text("FILE"),
     rule: Rule::Required,
-    help: "The journal's file, which is made where there is none, but with --strict",
+    help: "The journal's file; where there is none, or an empty one,
+the server makes the journal, but not with --strict",
 };
 
 /// Where gates connect.
@@ -226,8 +255,9 @@ const IDLE: Parameter = Parameter {
     name: "idle",
     takes: Takes::Number("SECONDS", IDLE_LIMIT),
     rule: Rule::Optional,
-    help: "Ends a connection on which nothing was sent, or taken, for so long,
-or the rest of a request didn't come; without it none is ended",
+    help: "Closes the connection of a gate that for so many seconds, from 1
+to 1000000, sends nothing, takes no answer, or leaves a request
+unfinished; without it none is closed",
 };
 
 /// How often it is told how a server stands.
@@ -235,8 +265,8 @@ const REPORT: Parameter = Parameter {
     name: "report",
     takes: Takes::Number("SECONDS", REPORT_LIMIT),
     rule: Rule::Optional,
-    help: "Tells each so many seconds how the server stands, from 1 to 1000000;
-without it that isn't told",
+    help: "Tells each so many seconds, from 1 to 1000000, how the server
+stands; without it that isn't told",
 };
 
 /// What a server does whose journal's disk has failed.
@@ -245,7 +275,7 @@ const STAY_HALTED: Parameter = Parameter {
     takes: Takes::Flag,
     rule: Rule::Optional,
     help: "Goes on where the journal's disk has failed, for enquiries;
-without it the server then ends, to be started again",
+without it the server ends then, to be started again",
 };
 
 /// What a server refuses of a journal.
@@ -253,9 +283,10 @@ const STRICT_JOURNAL: Parameter = Parameter {
     name: "strict",
     takes: Takes::Flag,
     rule: Rule::Optional,
-    help: "Makes no journal: refuses one that isn't there,
-or that has more than one open slot behind its end;
-without it the server makes one, and tells of such slots",
+    help: "Makes no journal: refuses one that isn't there or is empty,
+that has more than one open slot behind its end, or of which
+that can't be read; without it the server makes a journal,
+and tells of such slots",
 };
 
 /// What a server does whose journal another one has.
@@ -263,8 +294,8 @@ const STANDBY: Parameter = Parameter {
     name: "standby",
     takes: Takes::Flag,
     rule: Rule::Optional,
-    help: "Waits where another server has the journal, and serves once that one
-has ended; without it the server is refused then",
+    help: "Where another server or run has the journal, waits until that
+has ended, and serves then; without it that is a fault",
 };
 
 /// The fare table by which an old journal was made.

@@ -1,5 +1,7 @@
 //! What command lines ask for. Each is written as one text, with a space between its words.
 mod journals;
+mod usage;
+mod verify;
 
 use clap::error::ErrorKind;
 use command_line::{arguments_of, refuse_bytes, refuse_command};
@@ -77,8 +79,9 @@ const HELPS: [(&str, &str, &str); 7] = [
     ),
     (
         "check",
-        "[OPTIONS] --table <FILE>\n",
-        "  bovtrila check --table fares.toml\n",
+        "--table <FILE> [--strict | --fare <FROM> <TO> <MOMENT>]\n       \
+         bovtrila check --against <OLD> <NEW>\n",
+        "  bovtrila check --against fares.toml fares-2026.toml\n",
     ),
     (
         "serve",
@@ -162,16 +165,20 @@ fn a_table_is_named_by_its_file(rt: HostRuntime) {
     let rows = [
         (
             "check --table fares.toml",
-            "Check(Check { table: \"fares.toml\", strict: false, journey: None })",
+            "Check(Report { table: \"fares.toml\", strict: false })",
         ),
         (
             "check --strict --table fares.toml",
-            "Check(Check { table: \"fares.toml\", strict: true, journey: None })",
+            "Check(Report { table: \"fares.toml\", strict: true })",
         ),
         (
             "check --table fares.toml --fare 1 65535 1970-01-02T01:01:01Z",
-            "Check(Check { table: \"fares.toml\", strict: false, \
-             journey: Some(Journey { from: 1, to: 65535, moment: 90061 }) })",
+            "Check(Fare { table: \"fares.toml\", \
+             journey: Journey { from: 1, to: 65535, moment: 90061 } })",
+        ),
+        (
+            "check --against old.toml new.toml",
+            "Check(Changes { old: \"old.toml\", new: \"new.toml\" })",
         ),
         (
             "replay --cards 10 --table fares.toml",
@@ -206,6 +213,11 @@ fn any_other_command_line_is_refused(rt: HostRuntime) {
         "check --table fares.toml --fare 1 3 2025-02-29T08:30:00Z",
         "check --table fares.toml --fare 1 3 1969-12-31T23:59:59Z",
         "check --table fares.toml --strict --fare 1 3 2025-01-07T08:30:00Z",
+        "check --against old.toml",
+        "check --against old.toml new.toml third.toml",
+        "check --against old.toml new.toml --table fares.toml",
+        "check --against old.toml new.toml --strict",
+        "check --against old.toml new.toml --fare 1 3 2025-01-07T08:30:00Z",
     ];
     assert_refused(&rt, alloc, &refused);
     assert_same(&rt, status_of(alloc, &["bovtrila"]), Some(2));
@@ -352,84 +364,6 @@ fn a_migration_needs_all_its_options(rt: HostRuntime) {
     let refused = [
         "migrate --table fares.toml --from old.journal --to new.journal --cards 10 b.toml",
         "migrate --table fares.toml --from old.journal --to new.journal",
-    ];
-    assert_refused(&rt, rt.alloc(), &refused);
-}
-
-#[test]
-fn a_verification_needs_a_journal_alone(rt: HostRuntime) {
-    let rows = [
-        (
-            "verify --journal a.journal",
-            "Verify(Verify { journal: \"a.journal\", table: None, revisions: [], seal: Unasked })",
-        ),
-        (
-            "verify --journal a.journal --table a.toml --seal b.toml c.toml",
-            "Verify(Verify { journal: \"a.journal\", table: Some(\"a.toml\"), \
-             revisions: [\"b.toml\", \"c.toml\"], seal: Made })",
-        ),
-    ];
-    assert_asked(&rt, rt.alloc(), &rows);
-    assert_refused(&rt, rt.alloc(), &["verify"]);
-}
-
-#[test]
-fn a_journal_is_held_against_a_number_and_a_digest(rt: HostRuntime) {
-    let rows = [
-        (
-            "verify --journal a --sealed 0 \
-             000102030405060708090a0b0c0d0e0f101112131415161718191A1B1C1D1E1F",
-            "Verify(Verify { journal: \"a\", table: None, revisions: [], \
-             seal: Kept { touches: 0, digest: [0, 1, 2, 3, 4, 5, 6, 7, 8, 9, 10, 11, 12, 13, 14, \
-             15, 16, 17, 18, 19, 20, 21, 22, 23, 24, 25, 26, 27, 28, 29, 30, 31] } })",
-        ),
-        (
-            "verify --journal a --sealed 17 \
-             000102030405060708090a0b0c0d0e0f101112131415161718191A1B1C1D1E1F",
-            "Verify(Verify { journal: \"a\", table: None, revisions: [], \
-             seal: Kept { touches: 17, digest: [0, 1, 2, 3, 4, 5, 6, 7, 8, 9, 10, 11, 12, 13, \
-             14, 15, 16, 17, 18, 19, 20, 21, 22, 23, 24, 25, 26, 27, 28, 29, 30, 31] } })",
-        ),
-        (
-            "verify --journal a --sealed 1000000 \
-             000102030405060708090a0b0c0d0e0f101112131415161718191A1B1C1D1E1F",
-            "Verify(Verify { journal: \"a\", table: None, revisions: [], \
-             seal: Kept { touches: 1000000, digest: [0, 1, 2, 3, 4, 5, 6, 7, 8, 9, 10, 11, 12, \
-             13, 14, 15, 16, 17, 18, 19, 20, 21, 22, 23, 24, 25, 26, 27, 28, 29, 30, 31] } })",
-        ),
-    ];
-    assert_asked(&rt, rt.alloc(), &rows);
-    let refused = [
-        "verify --journal a --sealed 1000001 \
-         000102030405060708090a0b0c0d0e0f101112131415161718191A1B1C1D1E1F",
-        "verify --journal a --sealed +1 \
-         000102030405060708090a0b0c0d0e0f101112131415161718191A1B1C1D1E1F",
-        "verify --journal a --sealed -1 \
-         000102030405060708090a0b0c0d0e0f101112131415161718191A1B1C1D1E1F",
-        "verify --journal a --sealed x \
-         000102030405060708090a0b0c0d0e0f101112131415161718191A1B1C1D1E1F",
-        "verify --journal a --sealed 1 00",
-        "verify --journal a --sealed 1 x",
-    ];
-    assert_refused(&rt, rt.alloc(), &refused);
-}
-
-#[test]
-fn a_seal_is_asked_for_once_and_whole(rt: HostRuntime) {
-    let rows = [(
-        "verify --journal a --table a.toml --sealed 1 \
-         000102030405060708090a0b0c0d0e0f101112131415161718191A1B1C1D1E1F b.toml",
-        "Verify(Verify { journal: \"a\", table: Some(\"a.toml\"), revisions: [\"b.toml\"], \
-         seal: Kept { touches: 1, digest: [0, 1, 2, 3, 4, 5, 6, 7, 8, 9, 10, 11, 12, 13, 14, \
-         15, 16, 17, 18, 19, 20, 21, 22, 23, 24, 25, 26, 27, 28, 29, 30, 31] } })",
-    )];
-    assert_asked(&rt, rt.alloc(), &rows);
-    let refused = [
-        "verify --journal a.journal --sealed",
-        "verify --journal a.journal --sealed 1",
-        "verify --journal a.journal --seal --sealed 1 \
-         000102030405060708090a0b0c0d0e0f101112131415161718191A1B1C1D1E1F",
-        "verify --journal a.journal b.toml",
     ];
     assert_refused(&rt, rt.alloc(), &refused);
 }

@@ -1,5 +1,7 @@
 //! Texts that are looked over, with what is told worked out by hand.
 
+mod changes;
+
 use std::alloc::Global;
 use std::fmt::{Debug, Write};
 use std::process::Abort;

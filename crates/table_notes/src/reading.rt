@@ -1,0 +1,153 @@
+//! What a fare table says, place by place, in words.
+
+use crate::found::Found;
+use crate::tree::{member_in, rows_at, text_in, value_at, whole_in};
+use std::alloc::{AllocError, Global};
+use toml::{Table, Value};
+
+/// The keys of the table itself.
+const WHOLE: [&str; 7] = [
+    "zone",
+    "entry_minimum",
+    "balance_limit",
+    "leg_minutes",
+    "evening_rule",
+    "maximum_peak",
+    "maximum_off_peak",
+];
+
+/// The lists of rows, and the keys that don't name a row: what it says.
+const LISTS: [(&str, &[&str]); 5] = [
+    ("station", &["name", "zones"]),
+    ("single", &["peak", "off_peak"]),
+    ("pair", &["lo", "hi", "peak", "off_peak", "minutes"]),
+    ("cap", &["price"]),
+    ("interchange", &["minutes"]),
+];
+
+/// What a table says at one place.
+#[derive(Debug, PartialEq, Eq, Drop)]
+pub struct Said {
+    /// The place, in words: a key of the table, or which row it is.
+    pub place: String,
+    /// What stands there.
+    pub value: String,
+}
+
+/// What a table says at each place, in the order of docs/TABLE.md: its own keys, its rows and its
+/// holidays. Keys that nobody knows aren't read.
+pub fn reading_of(alloc: Global, tree: &Table) -> Result<Vec<Said>, AllocError> {
+    let mut said = Vec::new(alloc);
+    for key in &WHOLE {
+        if let Some(value) = value_at(tree, key) {
+            said.push(said_of(alloc, key, value)?)?;
+        }
+    }
+    for (list, keys) in &LISTS {
+        for row in rows_at(tree, list) {
+            said.push(row_said(alloc, list, keys, row)?)?;
+        }
+    }
+    for day in rows_at(tree, "holidays") {
+        said.push(day_said(alloc, day)?)?;
+    }
+    Ok(said)
+}
+
+/// What stands at a key of the table itself.
+fn said_of(alloc: Global, key: &str, value: &Value) -> Result<Said, AllocError> {
+    Ok(Said {
+        place: format!(in alloc; "{key}")?,
+        value: value_text(alloc, value)?,
+    })
+}
+
+/// What a row says.
+fn row_said(alloc: Global, list: &str, keys: &[&str], row: &Value) -> Result<Said, AllocError> {
+    Ok(Said {
+        place: row_place(alloc, list, row)?,
+        value: row_text(alloc, keys, row)?,
+    })
+}
+
+/// A holiday.
+fn day_said(alloc: Global, day: &Value) -> Result<Said, AllocError> {
+    let date = match day {
+        Value::String(text) => text.as_str(),
+        _ => "",
+    };
+    Ok(Said {
+        place: format!(in alloc; "holiday {date}")?,
+        value: format!(in alloc; "yes")?,
+    })
+}
+
+/// Which row of a list it is, in words: by the keys that no two rows of the list share.
+fn row_place(alloc: Global, list: &str, row: &Value) -> Result<String, AllocError> {
+    match list {
+        "station" => {
+            let id = number(row, "id");
+            format!(in alloc; "station {id}")
+        }
+        "single" => {
+            let (low, high) = (number(row, "low"), number(row, "high"));
+            format!(in alloc; "single of zones {low} to {high}")
+        }
+        "cap" => {
+            let (lo, hi) = (number(row, "lo"), number(row, "hi"));
+            let kind = text_in(row, "kind");
+            format!(in alloc; "{kind} cap of zones {lo} to {hi}")
+        }
+        "pair" => ends_place(alloc, list, number(row, "from"), number(row, "to")),
+        _ => ends_place(alloc, list, number(row, "a"), number(row, "b")),
+    }
+}
+
+/// A row that names two stations, in either order.
+fn ends_place(alloc: Global, list: &str, one: i64, other: i64) -> Result<String, AllocError> {
+    let (low, high) = (one.min(other), one.max(other));
+    format!(in alloc; "{list} of stations {low} and {high}")
+}
+
+/// The number at a key of a row, which every valid table has there.
+fn number(row: &Value, key: &str) -> i64 {
+    whole_in(row, key).unwrap_or(0)
+}
+
+/// What stands at these keys of a row, those that are there.
+fn row_text(alloc: Global, keys: &[&str], row: &Value) -> Result<String, AllocError> {
+    let mut text = String::new(alloc);
+    for key in keys {
+        if let Some(value) = member_in(row, key) {
+            if !text.is_empty() {
+                text.push_str(", ")?;
+            }
+            text.push_str(key)?;
+            text.push_str(" ")?;
+            text.push_str(&value_text(alloc, value)?)?;
+        }
+    }
+    Ok(text)
+}
+
+/// A value, in one line: of a list each item.
+fn value_text(alloc: Global, value: &Value) -> Result<String, AllocError> {
+    match value {
+        Value::Array(items) => items_text(alloc, items.as_slice()),
+        value => {
+            let found = Found { value };
+            format!(in alloc; "{found}")
+        }
+    }
+}
+
+/// The items of a list, in one line.
+fn items_text(alloc: Global, items: &[Value]) -> Result<String, AllocError> {
+    let mut text = String::new(alloc);
+    for value in items {
+        let found = Found { value };
+        let before = if text.is_empty() { "" } else { " and " };
+        text.push_str(&format!(in alloc; "{before}{found}")?)?;
+    }
+    Ok(text)
+}
