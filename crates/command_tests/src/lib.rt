@@ -1,4 +1,4 @@
-//! The tests of command_line, table_notes and table_commands, in a crate of their own: a module for each.
+//! The tests of command_line and table_commands, in a crate of their own: a module for each.
 #![tactic(auto)]
 
 #[cfg(test)]

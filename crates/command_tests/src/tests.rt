@@ -2,4 +2,3 @@
 
 mod of_command_line;
 mod of_table_commands;
-mod of_table_notes;

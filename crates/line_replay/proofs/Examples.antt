@@ -1,5 +1,5 @@
--- Worked examples, computed by the definitions: lines of docs/PROTOCOL.md, "Replay", whose answers
--- no table of fares decides, and the printed line of each fault, as docs/FAULTS.md has it.
+-- Worked examples, computed by the definitions: lines of docs/PROTOCOL.md, "Replay", whose answers no table of fares
+-- decides, and the printed line of a bad line, as docs/FAULTS.md has it.
 use Rattle.std.proofs.Common.{◌≡◌, refl, pos, List, [], ◌∷◌, ◌++◌, Some, None, codes, ℕ, replicate}
 use Rattle.std.specs.Fmt.{digits}
 use Rattle.hex.proofs.OnLiterals.{hex_on_literals}
@@ -8,12 +8,12 @@ use Rattle.gate_session.specs.declared.request.Request.TheVariants as requests
 use Rattle.reply_book.specs.Tables.{Tables}
 use Rattle.reply_book.specs.Lookup.{found, is_same_touch}
 use Rattle.reply_book.specs.View.{view_after}
-use Rattle.line_replay.specs.declared.fault.RunFault.TheVariants as fault
+use Rattle.line_replay.specs.declared.fault.ReplayFault.TheVariants as fault
 use Rattle.line_replay.specs.Line.{lines_of}
 use Rattle.line_replay.specs.HexLine.{request_of, request_of_line, answer_line}
 use Rattle.line_replay.specs.Station.{answer, after}
 use Rattle.line_replay.specs.Replay.{Output, output_of_lines, output_of}
-use Rattle.line_replay.specs.Texts.{printed_run_fault}
+use Rattle.line_replay.specs.Texts.{printed_replay_fault}
 
 -- a line of digits
 abbrev line : List ℕ → List ℕ
@@ -24,7 +24,8 @@ written text = record { text = text; bad = None }
 
 -- what the definitions open to, on literals
 unfoldable on_literals : Unit {0}
-unfolding lines_of request_of request_of_line answer_line found is_same_touch view_after answer after output_of_lines hex_on_literals
+unfolding lines_of request_of request_of_line answer_line found is_same_touch view_after answer after output_of_lines
+    hex_on_literals
 on_literals = tt
 
 empty_input : (tables : Tables) → output_of tables 10 [] ≡ written []
@@ -32,18 +33,24 @@ unfolding on_literals
 empty_input tables = refl
 
 -- a line that is no request, and one behind it
-bad_line : (tables : Tables) → output_of tables 10 (line (codes "zz") ++ line (codes "00050500000001")) ≡ record { text = line (codes "0008ff01000000000000"); bad = Some 1 }
+bad_line : (tables : Tables) → output_of tables 10 (line (codes "zz") ++ line (codes "00050500000001"))
+    ≡ record { text = line (codes "0008ff01000000000000"); bad = Some 1 }
 unfolding on_literals
 bad_line tables = refl
 
 -- upper-case digits, and a last line without a line feed
-upper_case : (tables : Tables) → output_of tables 10 (codes "000505" ++ codes "0000000B") ≡ written (line (codes "000e8500000000000000000000000000"))
+upper_case : (tables : Tables) → output_of tables 10 (codes "000505" ++ codes "0000000B") ≡ written
+    (line (codes "000e8500000000000000000000000000"))
 unfolding on_literals
 upper_case tables = refl
 
 -- an empty line between lines is no request
-empty_line : (tables : Tables) → output_of tables 10 (line (codes "00050500000001") ++ line [] ++ line (codes "00050500000001"))
-    ≡ record { text = line (codes "000e8500000000000000000000000000") ++ line (codes "0008ff01000000000000"); bad = Some 2 }
+empty_line : (tables : Tables)
+    → output_of tables 10 (line (codes "00050500000001") ++ line [] ++ line (codes "00050500000001"))
+    ≡ record {
+      text = line (codes "000e8500000000000000000000000000") ++ line (codes "0008ff01000000000000");
+      bad = Some 2;
+    }
 unfolding on_literals
 empty_line tables = refl
 
@@ -65,19 +72,10 @@ short_revision : request_of_line (codes "0013060007000000020000" ++ codes "00010
 unfolding on_literals
 short_revision = refl
 
-printed_memory : printed_run_fault fault.Memory ≡ codes "fault run 1 Memory"
-printed_memory = refl
-
-printed_read : printed_run_fault fault.Read ≡ codes "fault run 2 Read"
-printed_read = refl
-
-printed_write : printed_run_fault fault.Write ≡ codes "fault run 3 Write"
-printed_write = refl
-
-printed_bad_line : printed_run_fault (fault.BadLine 7) ≡ codes "fault run 4 BadLine 7"
+printed_bad_line : printed_replay_fault (fault.BadLine 7) ≡ codes "fault run 4 BadLine 7"
 unfolding digits
 printed_bad_line = refl
 
-printed_line_of_three_digits : printed_run_fault (fault.BadLine 129) ≡ codes "fault run 4 BadLine 129"
+printed_line_of_three_digits : printed_replay_fault (fault.BadLine 129) ≡ codes "fault run 4 BadLine 129"
 unfolding digits
 printed_line_of_three_digits = refl

@@ -1,6 +1,8 @@
 //! A module for each library, of its public names alone.
 
+mod fakes;
 mod of_gate_session;
 mod of_line_replay;
 mod of_reply_book;
-mod of_table_check;
+mod of_table_report;
+mod of_text_io;

@@ -1,19 +1,20 @@
--- What `check --against` has written where it ends, and its status (docs/COMMANDS.md, "check"; this project's
--- choice).
+-- What `check --against` has written where it ends, and its status (docs/COMMANDS.md, "check"; this
+-- project's choice).
 use Rattle.std.specs.Prelude.{◌≡◌, ◌⊎◌, ℕ, List, [], ◌∷◌, ◌++◌, codes, Option, Some, None}
 use Rattle.fare_schedule.specs.Schedule.{tables_of}
 use Rattle.fare_schedule.specs.Supply.{supply_fault}
 use Rattle.fare_schedule.specs.declared.fault.SupplyFault.{SupplyFault}
-use Rattle.fare_schedule.specs.declared.fault.SupplyFault.TheVariants.{Memory, Twice, OtherZone, OtherStations, TooMany}
+use Rattle.fare_schedule.specs.declared.fault.SupplyFault.TheVariants.{Memory, Twice, OtherZone}
+use Rattle.fare_schedule.specs.declared.fault.SupplyFault.TheVariants.{OtherStations, TooMany}
 use Rattle.fare_schedule.specs.declared.schedule.Schedule.{Schedule}
 use Rattle.fare_table.specs.Table.{IsTableOf}
 use Rattle.fare_table.specs.declared.fares.Fares.{Fares}
-use Rattle.gate_session.specs.Writing.{Wrote}
-use Rattle.table_notes.specs.Changes.{changes_of}
-use Rattle.table_notes.specs.declared.reading.Said.{Said}
+use Rattle.text_io.specs.Writing.{Wrote}
+use Rattle.table_report.specs.Changes.{changes_of}
+use Rattle.table_report.specs.declared.reading.Said.{Said}
 
--- a schedule of the first table alone doesn't take the second for this fault, or takes it where there is
--- none
+-- a schedule of the first table alone doesn't take the second for this fault, or takes it where
+-- there is none
 abbrev pub IsJudged : Fares → Fares → Option SupplyFault → Type 0
 IsJudged first second fault = (schedule : Schedule) × (tables_of schedule ≡ first ∷ [])
     × (supply_fault schedule second ≡ fault)
@@ -35,10 +36,11 @@ revision_status (Some fault) = 1
 -- the text has a line for each difference of two readings, or says that there is none
 abbrev pub ArePlaces : List ℕ → Type 0
 ArePlaces text = (old : List Said) × (new : List Said)
-    × ((text ≡ changes_of old new) ⊎ ((changes_of old new ≡ []) × (text ≡ codes "nothing changes\n")))
+    × ((text ≡ changes_of old new)
+    ⊎ ((changes_of old new ≡ []) × (text ≡ codes "nothing changes\n")))
 
--- the tables are those of the two files; their differences were written, and the judgement behind them,
--- by which the status goes
+-- the tables are those of the two files; their differences were written, and the judgement behind
+-- them, by which the status goes
 pub record HasCompared (gave : List ℕ → List ℕ → Type 0) (old new : List ℕ)
     (before after : Option (List ℕ)) (status : ℕ) : Type 0 where
   pub old_bytes : List ℕ

@@ -1,13 +1,14 @@
 -- What `check` has written where it ends, and its status (docs/COMMANDS.md, "check"; this project's
 -- choice).
 use Rattle.std.specs.Prelude.{◌≡◌, ℕ, Bool, not, ◌&&◌, List, if◌then◌else◌}
-use Rattle.table_check.specs.Check.{TableReport, HasBegun}
+use Rattle.table_report.specs.Check.{TableReport, HasBegun}
 use Rattle.table_commands.specs.declared.fault.TrialFault.{TrialFault}
 use Rattle.table_commands.specs.declared.fault.TrialFault.TheVariants.{Run}
 
--- all of the report was written, and the status is 0 for a valid table, else 1; where notes count, it is 1 for a valid table
--- of which something is noted, too
-pub record IsReported (report : TableReport) (notes_count : Bool) (written : List ℕ) (told : ℕ) : Type 0 where
+-- all of the report was written, and the status is 0 for a valid table, else 1; where notes count,
+-- it is 1 for a valid table of which something is noted, too
+pub record IsReported (report : TableReport) (notes_count : Bool) (written : List ℕ)
+    (told : ℕ) : Type 0 where
   pub noted : Bool
   pub text : written ≡ report.text
   pub status : told ≡ (if report.valid && not (notes_count && noted) then 0 else 1)

@@ -5,8 +5,8 @@ use Rattle.fare_table.specs.Fares.{content_of}
 use Rattle.fare_table.specs.Table.{IsTableOf}
 use Rattle.fare_table.specs.declared.fares.Fares.{Fares}
 use Rattle.command_line.specs.declared.check.Journey.{Journey}
-use Rattle.table_check.specs.Fare.{IsQuoteOf, printed_quote}
-use Rattle.table_check.specs.declared.fare.Quote.{Quote}
+use Rattle.table_report.specs.Fare.{IsQuoteOf, printed_quote}
+use Rattle.table_report.specs.declared.fare.Quote.{Quote}
 use Rattle.table_commands.specs.declared.fault.TrialFault.{TrialFault}
 use Rattle.table_commands.specs.declared.fault.TrialFault.TheVariants.{Station}
 

@@ -1,11 +1,14 @@
--- What the number of an error says of a file, or of an address, that isn't had: Linux's numbers (errno.h), told apart as
--- open(2) and bind(2) say.
+-- What the number of an error says of a file, or of an address, that isn't had: Linux's numbers
+-- (errno.h), told apart as open(2) and bind(2) say.
 use Rattle.std.specs.Prelude.{ℕ, ℤ, pos, negsuc, Option, None, Some, if◌then◌else◌, ◌||◌, ◌==◌}
 use Rattle.table_commands.specs.declared.refusal.Refusal.{Refusal}
-use Rattle.table_commands.specs.declared.refusal.Refusal.TheVariants.{NoFile, NoFolder, Folder, Permission, ReadOnly, Descriptors, Memory, Room, InUse, NotHere, Other}
+use Rattle.table_commands.specs.declared.refusal.Refusal.TheVariants.{NoFile, NoFolder, Folder}
+use Rattle.table_commands.specs.declared.refusal.Refusal.TheVariants.{Permission, ReadOnly}
+use Rattle.table_commands.specs.declared.refusal.Refusal.TheVariants.{Descriptors, Memory, Room}
+use Rattle.table_commands.specs.declared.refusal.Refusal.TheVariants.{InUse, NotHere, Other}
 
--- what is said by a number: EPERM 1, ENOENT 2, ENOMEM 12, EACCES 13, ENOTDIR 20, EISDIR 21, ENFILE 23, EMFILE 24,
--- ENOSPC 28, EROFS 30, EADDRINUSE 98, EADDRNOTAVAIL 99
+-- what is said by a number: EPERM 1, ENOENT 2, ENOMEM 12, EACCES 13, ENOTDIR 20, EISDIR 21, ENFILE
+-- 23, EMFILE 24, ENOSPC 28, EROFS 30, EADDRINUSE 98, EADDRNOTAVAIL 99
 abbrev pub refusal_by : ℕ → Refusal
 refusal_by n =
     if n == 2 then NoFile

@@ -1,12 +1,13 @@
--- What `replay` has read and written where it ends (docs/PROTOCOL.md, "Replay"; this project's choice).
+-- What `replay` has read and written where it ends (docs/PROTOCOL.md, "Replay"; this project's
+-- choice).
 use Rattle.std.specs.Prelude.{◌≡◌, ℕ, List, Option, None}
-use Rattle.gate_session.specs.Writing.{Ran}
+use Rattle.text_io.specs.Writing.{Ran}
 use Rattle.line_replay.specs.Replay.{Output, output_of}
 use Rattle.line_replay.specs.Run.{HasStopped}
-use Rattle.line_replay.specs.declared.fault.RunFault.{RunFault}
+use Rattle.line_replay.specs.declared.fault.ReplayFault.{ReplayFault}
 use Rattle.table_commands.specs.Tables.{ForTables}
 use Rattle.table_commands.specs.declared.fault.TrialFault.{TrialFault}
-use Rattle.table_commands.specs.declared.fault.TrialFault.TheVariants.{Run}
+use Rattle.table_commands.specs.Trial.{replay_fault}
 
 -- all of the output was written, and no line is bad
 abbrev pub IsWhole : Output → List ℕ → Type 0
@@ -17,8 +18,8 @@ abbrev pub IsUnasked : {R W : Type 0} → R → R → W → W → Type 0
 IsUnasked reader reader_after writer writer_after =
     (reader_after ≡ reader) × (writer_after ≡ writer)
 
--- by the tables of these words and with so many cards the output of what was read was written, of which
--- this is said
+-- by the tables of these words and with so many cards the output of what was read was written, of
+-- which this is said
 abbrev pub HasReplayed : (List ℕ → List ℕ → Type 0) → Option (List ℕ) → List (List ℕ) → ℕ
     → Option (List ℕ) → Option (List ℕ) → Option (List ℕ) → Option (List ℕ)
     → (Output → List ℕ → Type 0) → Type 0
@@ -30,5 +31,6 @@ HasReplayed gave first further cards unread left before after Says =
 abbrev pub HasEndedEarly : (List ℕ → List ℕ → Type 0) → Option (List ℕ) → List (List ℕ) → ℕ
     → Option (List ℕ) → Option (List ℕ) → Option (List ℕ) → Option (List ℕ) → TrialFault → Type 0
 HasEndedEarly gave first further cards unread left before after fault =
-    (run : RunFault) × (fault ≡ Run run) × HasReplayed gave first further cards unread left before after
-    (λ output text. HasStopped output text run)
+    (early : ReplayFault) × (fault ≡ replay_fault early)
+    × HasReplayed gave first further cards unread left before after
+    (λ output text. HasStopped output text early)

@@ -7,15 +7,16 @@ use Rattle.fare_table.specs.declared.example.TheConstants.{EXAMPLE_TABLE}
 use Rattle.fare_table.specs.declared.fares.Fares.{Fares}
 use Rattle.fare_schedule.specs.Schedule.{tables_of}
 use Rattle.fare_schedule.specs.declared.schedule.Schedule.{Schedule}
-use Rattle.line_replay.specs.declared.fault.RunFault.TheVariants as runs
+use Rattle.text_io.specs.declared.fault.RunFault.TheVariants as runs
 use Rattle.reply_book.specs.Tables.{Tables, tables_in}
-use Rattle.table_check.specs.Check.{fault_in}
+use Rattle.table_report.specs.Check.{fault_in}
 use Rattle.table_commands.specs.Trial.{IsSupplyFault}
 use Rattle.table_commands.specs.declared.fault.TrialFault.{TrialFault}
 use Rattle.table_commands.specs.declared.fault.TrialFault.TheVariants.{Run, Table, File}
 
 -- the table is that of the bytes that the file of this path gave
-pub record IsTableIn (gave : List ℕ → List ℕ → Type 0) (path : List ℕ) (table : Fares) : Type 0 where
+pub record IsTableIn (gave : List ℕ → List ℕ → Type 0) (path : List ℕ)
+    (table : Fares) : Type 0 where
   pub bytes : List ℕ
   pub given : gave path bytes
   pub read : IsTableOf bytes table
@@ -51,7 +52,8 @@ IsTableFault bytes (Table fault _) = fault_in bytes ≡ Some fault
 IsTableFault bytes (Run runs.Memory) = Unit {0}
 IsTableFault bytes _ = ⊥
 
--- why the file of this path gives no table: its first fault, or it isn't had, or there was no memory
+-- why the file of this path gives no table: its first fault, or it isn't had, or there was no
+-- memory
 abbrev pub IsTableInFault : (List ℕ → List ℕ → Type 0) → List ℕ → TrialFault → Type 0
 IsTableInFault gave path (Table fault _) =
     (bytes : List ℕ) × gave path bytes × (fault_in bytes ≡ Some fault)
@@ -71,8 +73,8 @@ abbrev pub IsTaken : (List ℕ → List ℕ → Type 0) → Schedule → List �
 IsTaken gave old path new =
     (table : Fares) × IsTableIn gave path table × (tables_of new ≡ tables_of old ++ table ∷ [])
 
--- the table in the file of this path isn't taken beside those of a schedule, as the further one of this
--- place, for this fault
+-- the table in the file of this path isn't taken beside those of a schedule, as the further one of
+-- this place, for this fault
 pub record IsRefusedBeside (gave : List ℕ → List ℕ → Type 0) (schedule : Schedule) (path : List ℕ)
     (place : ℕ) (fault : TrialFault) : Type 0 where
   pub table : Fares

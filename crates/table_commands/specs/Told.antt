@@ -1,12 +1,15 @@
--- What a fault of a trial prints: the line that standard error gets of it (docs/FAULTS.md, "Faults"; this
--- project's choice).
+-- What a fault of a trial prints: the line that standard error gets of it (docs/FAULTS.md,
+-- "Faults"; this project's choice).
 use Rattle.std.specs.Prelude.{ℕ, List, ◌++◌, Option, Some, None, codes}
 use Rattle.std.specs.Fmt.{decimal}
 use Rattle.fare_schedule.specs.Texts.{printed_fault as printed_supply_fault}
 use Rattle.fare_table.specs.Texts.{printed_fault as printed_table_fault}
-use Rattle.line_replay.specs.Texts.{printed_run_fault}
+use Rattle.line_replay.specs.Texts.{printed_replay_fault}
+use Rattle.line_replay.specs.declared.fault.ReplayFault.TheVariants as replays
+use Rattle.text_io.specs.Texts.{printed_run_fault}
 use Rattle.table_commands.specs.declared.fault.TrialFault.{TrialFault}
-use Rattle.table_commands.specs.declared.fault.TrialFault.TheVariants.{Line, File, Table, Supply, Station, Run}
+use Rattle.table_commands.specs.declared.fault.TrialFault.TheVariants.{Line, File, Table, Supply}
+use Rattle.table_commands.specs.declared.fault.TrialFault.TheVariants.{Station, Run, BadLine}
 
 -- the line of a fault: the name of its part, and what that part prints of it; what is said of a
 -- command line is `clap`'s, which doesn't state it
@@ -18,3 +21,4 @@ told_trial (Supply fault place _) =
     Some (codes "fault supply " ++ (printed_supply_fault fault ++ (codes " " ++ decimal place)))
 told_trial (Station station) = Some (codes "fault station " ++ decimal station)
 told_trial (Run fault) = Some (printed_run_fault fault)
+told_trial (BadLine number) = Some (printed_replay_fault (replays.BadLine number))

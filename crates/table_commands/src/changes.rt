@@ -2,7 +2,7 @@
 
 ghost use Rattle.std.specs.Prelude.{◌≡◌, ◌⊎◌, ◌++◌, IfOk, IfErr, string_bytes};
 ghost use Rattle.std.specs.Process.{exit_status};
-ghost use Rattle.line_replay.specs.declared.fault.RunFault.TheVariants.{Write as WriteFailed};
+ghost use Rattle.text_io.specs.declared.fault.RunFault.TheVariants.{Write as WriteFailed};
 ghost use Rattle.table_commands.specs.Changes.{HasCompared, IsJudged, ArePlaces};
 ghost use Rattle.table_commands.specs.Changes.{verdict_text, revision_status};
 ghost use Rattle.table_commands.specs.declared.fault.TrialFault.TheVariants.{Run};
@@ -13,11 +13,11 @@ use crate::files::WholeFiles;
 use crate::tables::table_of;
 use fare_schedule::{Schedule, SupplyFault};
 use fare_table::Fares;
-use line_replay::RunFault;
 use std::alloc::{AllocError, Global};
 use std::io::Write;
 use std::process::ExitCode;
-use table_notes::{Said, Sheet, SurveyFault, changes_of};
+use table_report::{Said, Sheet, SurveyFault, changes_of};
+use text_io::RunFault;
 
 /// What stands where two tables say the same.
 const SAME: &str = "nothing changes\n";
@@ -31,11 +31,11 @@ struct Comparison {
     fault: Option<SupplyFault>,
 }
 
-/// Writes what the fare table in the second file changes of that in the first, a line for each place,
-/// and whether it may revise the first. The status is 0 where it may, else 1.
+/// Writes what the fare table in the second file changes of that in the first, a line for each
+/// place, and whether it may revise the first. The status is 0 where it may, else 1.
 ///
-/// A fault is that of the first file or its table, then of the second's; want of memory; or a failed
-/// write. Before any other fault than that nothing was written.
+/// A fault is that of the first file or its table, then of the second's; want of memory; or a
+/// failed write. Before any other fault than that nothing was written.
 pub fn tell_changes<F: WholeFiles, W: Write>(
     alloc: Global,
     files: &F,
@@ -95,8 +95,8 @@ fn reading_in(alloc: Global, bytes: &[u8]) -> Result<Vec<Said>, RunFault> {
     }
 }
 
-/// Why fares may not be revised from the first table to the second, by the rule of the schedule that
-/// would have both. An `Err` is want of memory.
+/// Why fares may not be revised from the first table to the second, by the rule of the schedule
+/// that would have both. An `Err` is want of memory.
 fn revision_fault(
     alloc: Global,
     first: Fares,

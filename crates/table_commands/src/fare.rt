@@ -3,10 +3,10 @@
 ghost use Rattle.std.specs.Prelude.{◌≡◌, ◌⊎◌, IfOk, IfErr, OnOk, string_bytes};
 ghost use Rattle.std.specs.Io.KnownBytes.{Appends};
 ghost use Rattle.std.specs.Process.{exit_status};
-ghost use Rattle.gate_session.specs.Writing.{Wrote};
-ghost use Rattle.line_replay.specs.declared.fault.RunFault.TheVariants.{Write as WriteFailed};
+ghost use Rattle.text_io.specs.Writing.{Wrote};
+ghost use Rattle.text_io.specs.declared.fault.RunFault.TheVariants.{Write as WriteFailed};
 ghost use Rattle.fare_table.specs.Fares.{content_of};
-ghost use Rattle.table_check.specs.Fare.{IsQuoteOf};
+ghost use Rattle.table_report.specs.Fare.{IsQuoteOf};
 ghost use Rattle.table_commands.specs.Fare.{IsFareText, IsUnknown};
 ghost use Rattle.table_commands.specs.Files.{ForFile};
 ghost use Rattle.table_commands.specs.declared.fault.TrialFault.TheVariants.{Run};
@@ -16,18 +16,16 @@ use crate::files::WholeFiles;
 use crate::tables::table_of;
 use command_line::Journey;
 use fare_table::Fares;
-use gate_session::write_text;
-use line_replay::RunFault;
 use std::alloc::Global;
 use std::io::Write;
 use std::process::ExitCode;
-use table_check::{Quote, cost_of};
-use table_notes::{Sheet, SurveyFault};
+use table_report::{Quote, Sheet, SurveyFault, cost_of};
+use text_io::{RunFault, write_text};
 
 /// Writes what a journey costs by the fare table in a file, and why. The status is 0.
 ///
-/// A fault is that of the file, `Table`, `Station` for a station that the table hasn't, want of memory,
-/// or a failed write. Before any other fault than that nothing was written.
+/// A fault is that of the file, `Table`, `Station` for a station that the table hasn't, want of
+/// memory, or a failed write. Before any other fault than that nothing was written.
 pub fn tell_fare<F: WholeFiles, W: Write>(
     alloc: Global,
     files: &F,

@@ -1,9 +1,9 @@
 //! Why a trial wasn't made, and what is told of it on standard error.
 
 ghost use Rattle.std.specs.Prelude.{◌≡◌};
-ghost use Rattle.line_replay.specs.declared.fault.RunFault.TheVariants.{Memory};
+ghost use Rattle.text_io.specs.declared.fault.RunFault.TheVariants.{Memory};
 ghost use Rattle.table_commands.specs.declared.fault.TrialFault.TheVariants.{Run};
-ghost use Rattle.table_commands.specs.Trial.{trial_fault};
+ghost use Rattle.table_commands.specs.Trial.{replay_fault, trial_fault};
 ghost use Rattle.table_commands.specs.Told.{told_trial};
 
 use crate::detail::Detail;
@@ -11,10 +11,11 @@ use clap::Error as LineError;
 use clap::error::ErrorKind;
 use fare_schedule::SupplyFault;
 use fare_table::TableFault;
-use line_replay::RunFault;
+use line_replay::ReplayFault;
 use std::alloc::AllocError;
 use std::process::ExitCode;
 use std::{fmt, io};
+use text_io::RunFault;
 use thiserror::Error;
 
 /// Why a trial wasn't made. It is also what any command may fail of before it does what is its own:
@@ -34,6 +35,8 @@ pub enum TrialFault {
     Station(u16),
     /// The run over the input ended early.
     Run(RunFault),
+    /// The line of this number, from 1, of the input of a replay is no request.
+    BadLine(u64),
 }
 
 /// Prints the line that standard error gets of the fault, without its line feed. It is written by
@@ -49,6 +52,7 @@ impl fmt::Display for TrialFault {
             TrialFault::Supply(fault, place, _) => write!(f, "fault supply {fault} {place}"),
             TrialFault::Station(station) => write!(f, "fault station {station}"),
             TrialFault::Run(fault) => write!(f, "{fault}"),
+            TrialFault::BadLine(number) => write!(f, "{}", ReplayFault::BadLine(*number)),
         }
     }
 }
@@ -89,6 +93,18 @@ impl From<RunFault> for TrialFault {
 
     fn from(fault: RunFault) -> TrialFault {
         TrialFault::Run(fault)
+    }
+}
+
+/// Why a replay ended early is told as it is.
+impl From<ReplayFault> for TrialFault {
+    ghost from_gives = { λ given fault. fault ≡ replay_fault given };
+
+    fn from(fault: ReplayFault) -> TrialFault {
+        match fault {
+            ReplayFault::Run(fault) => TrialFault::Run(fault),
+            ReplayFault::BadLine(number) => TrialFault::BadLine(number),
+        }
     }
 }
 

@@ -7,11 +7,11 @@ ghost use Rattle.table_commands.specs.Files.{IsAnyReading, IsFileFault};
 use crate::detail::Detail;
 use crate::fault::TrialFault;
 use crate::refusal::{open_refusal, read_refusal};
-use line_replay::{RunFault, read_all};
 use std::alloc::Global;
 use std::fs::{File, OpenFile};
 use std::io::Read;
 use std::rt::Files;
+use text_io::{RunFault, read_all};
 
 /// How many reads are made of a file at most.
 pub(crate) const TURNS: u32 = 1_000_000;

@@ -2,31 +2,48 @@
 
 ghost use Rattle.std.specs.Prelude.{◌≡◌, ◌⊎◌, ◌&&◌, not, IfOk, IfErr, if◌then◌else◌};
 ghost use Rattle.std.specs.Process.{exit_status};
-ghost use Rattle.gate_session.specs.Writing.{Wrote};
-ghost use Rattle.line_replay.specs.declared.fault.RunFault.TheVariants.{Memory};
-ghost use Rattle.table_check.specs.Check.{report_of};
+ghost use Rattle.text_io.specs.Writing.{Wrote};
+ghost use Rattle.text_io.specs.declared.fault.RunFault.TheVariants.{Memory};
+ghost use Rattle.table_report.specs.Check.{report_of};
 ghost use Rattle.table_commands.specs.Files.{ForFile, IsFileFault};
 ghost use Rattle.table_commands.specs.Check.{IsReported, IsUnreported};
 
 use crate::detail::Detail;
 use crate::fault::TrialFault;
 use crate::files::WholeFiles;
-use crate::tables::table_detail;
+use crate::tables::sheet_detail;
 use fare_table::TableFault;
-use line_replay::RunFault;
 use std::alloc::Global;
 use std::io::Write;
 use std::process::ExitCode;
-use table_check::{check_bytes, read_table};
-use table_notes::{Survey, SurveyFault, Unknown, look_over};
+use table_report::{Sheet, Survey, SurveyFault, Unknown, look_over, report_table};
+use text_io::RunFault;
+
+/// What is told of a table beside its report.
+struct Notes {
+    /// What is told of its fault beside the fault's line.
+    detail: Detail,
+    /// What a survey of its text has found: nothing where it is no document.
+    survey: Option<Survey>,
+}
+
+/// By hand, so that it is one call wherever one is dropped.
+impl Drop for Notes {
+    fn drop(self) {
+        let Notes {
+            detail: _,
+            survey: _,
+        } = self;
+    }
+}
 
 /// Checks the fare table in a file, and writes what it is. Standard error is told which keys aren't
-/// known, which prices may not be meant, which rows a valid table has beside those of its report, and
-/// where a refused one is bad, with what may stand there. What it doesn't take is lost.
+/// known, which prices may not be meant, which rows a valid table has beside those of its report,
+/// and where a refused one is bad, with what may stand there. What it doesn't take is lost.
 ///
-/// The status is 0 for a valid table, else 1; where notes count, it is 1 for a valid table with notes
-/// as well. The file is read to its end, and the memory for all notes is there, before anything is
-/// written. A fault is that of the file, want of memory, or a failed write.
+/// The status is 0 for a valid table, else 1; where notes count, it is 1 for a valid table with
+/// notes as well. The file is read to its end, and the memory for all notes is there, before
+/// anything is written. A fault is that of the file, want of memory, or a failed write.
 pub fn check_file<R: AllocGlobal + Eprint, F: WholeFiles, W: Write>(
     rt: &R,
     files: &F,
@@ -44,38 +61,48 @@ pub fn check_file<R: AllocGlobal + Eprint, F: WholeFiles, W: Write>(
 {
     let alloc = rt.alloc();
     let bytes = files.bytes_in(alloc, path)?;
-    let survey = surveyed(alloc, &bytes)?;
-    let detail = detail_of(alloc, path, &bytes);
-    let noted = has_notes(&survey);
-    let is_valid = check_bytes(alloc, &bytes, writer)?;
-    tell_notes(rt, &detail, &survey, is_valid);
+    let report = report_table(alloc, &bytes)?;
+    let notes = notes_on(alloc, path, &bytes, report.fault())?;
+    let noted = has_notes(&notes);
+    let is_valid = report.write(writer)?;
+    tell_notes(rt, &notes, is_valid);
     Ok(status_of(is_valid, notes_count && noted))
 }
 
-/// What a survey of a table's text has found: nothing where it is no document. An `Err` is want of
-/// memory.
-fn surveyed(alloc: Global, bytes: &[u8]) -> Result<Option<Survey>, RunFault>
+/// What there is to note of the table in the file at a path, which has this first fault or none. An
+/// `Err` is want of memory.
+fn notes_on(
+    alloc: Global,
+    path: &str,
+    bytes: &[u8],
+    fault: Option<TableFault>,
+) -> Result<Notes, RunFault>
     ensures { IfErr result (λ fault. fault ≡ Memory) }
 {
     match look_over(alloc, bytes) {
-        Ok(survey) => Ok(Some(survey)),
-        Err(SurveyFault::Misread(_)) => Ok(None),
+        Ok((sheet, survey)) => Ok(Notes {
+            detail: detail_in(alloc, path, &sheet, fault),
+            survey: Some(survey),
+        }),
+        Err(SurveyFault::Misread(misread)) => Ok(Notes {
+            detail: Detail::of(alloc, path, &misread),
+            survey: None,
+        }),
         Err(SurveyFault::Memory) => Err(RunFault::Memory),
     }
 }
 
-/// What is told of a table's fault beside its line: nothing of a valid table, and without memory.
-fn detail_of(alloc: Global, path: &str, bytes: &[u8]) -> Detail {
-    match read_table(alloc, bytes) {
-        Ok(_) => Detail::none(),
-        Err(TableFault::Memory) => Detail::none(),
-        Err(fault) => table_detail(alloc, path, bytes, fault),
+/// What is told of a table's fault beside its line: nothing of a valid table.
+fn detail_in(alloc: Global, path: &str, sheet: &Sheet<'_>, fault: Option<TableFault>) -> Detail {
+    match fault {
+        Some(fault) => sheet_detail(alloc, path, sheet, fault),
+        None => Detail::none(),
     }
 }
 
 /// Whether there is a note on a text.
-fn has_notes(survey: &Option<Survey>) -> bool {
-    match survey {
+fn has_notes(notes: &Notes) -> bool {
+    match &notes.survey {
         Some(survey) => {
             survey.are_pounds || !survey.unknown.is_empty() || !survey.low_caps.is_empty()
         }
@@ -95,11 +122,11 @@ fn status_of(is_valid: bool, is_refused: bool) -> ExitCode
 }
 
 /// Tells what was found in a table's text.
-fn tell_notes<R: Eprint>(rt: &R, detail: &Detail, survey: &Option<Survey>, is_valid: bool) {
-    if let Some(line) = detail.line() {
+fn tell_notes<R: Eprint>(rt: &R, notes: &Notes, is_valid: bool) {
+    if let Some(line) = notes.detail.line() {
         let _ = rt.eprintln(line);
     }
-    if let Some(survey) = survey {
+    if let Some(survey) = &notes.survey {
         tell_unknown(rt, survey);
         if is_valid {
             tell_prices(rt, survey);

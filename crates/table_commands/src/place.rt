@@ -6,7 +6,7 @@ ghost use Rattle.table_commands.specs.Place.{allowed_by, printed_allowed, list_t
 
 use fare_table::{Key, TableFault};
 use std::fmt;
-use table_notes::{Found, Sheet, Wanted};
+use table_report::{Found, Sheet, Wanted};
 
 /// The highest price, in pence.
 const PRICE: Allowed = Allowed::Whole(10_000);
@@ -78,8 +78,8 @@ pub enum Standing<'a> {
     Nothing(&'static str),
 }
 
-/// Where a fault of a table stands, what stands there, and what may. It prints as the line behind the
-/// fault's says it.
+/// Where a fault of a table stands, what stands there, and what may. It prints as the line behind
+/// the fault's says it.
 #[derive(Clone, Copy)]
 pub struct Place<'a> {
     /// The line, from 1, where it is known.
@@ -90,8 +90,8 @@ pub struct Place<'a> {
     pub allowed: Allowed,
 }
 
-/// Where this fault of a table stands. Of want of memory, and of a text that is no table, there is no
-/// place.
+/// Where this fault of a table stands. Of want of memory, and of a text that is no table, there is
+/// no place.
 pub fn place_of<'a>(sheet: &'a Sheet<'_>, fault: TableFault) -> Option<Place<'a>> {
     match fault {
         TableFault::Memory => None,

@@ -1,12 +1,15 @@
 //! The fare tables that a command's words name, and what is told of one that is refused.
 
-ghost use Rattle.std.specs.Prelude.{◌≡◌, ◌++◌, ◌∷◌, [], None, IfOk, IfErr, OnOk, OnErr, map, option_map};
+ghost use Rattle.std.specs.Prelude.{◌≡◌, ◌++◌, ◌∷◌, [], None, IfOk, IfErr, OnOk, OnErr, map};
+ghost use Rattle.std.specs.Prelude.{option_map};
 ghost use Rattle.fare_schedule.specs.Schedule.{tables_of, revisions_of};
 ghost use Rattle.fare_schedule.specs.Supply.{supply_fault};
 ghost use Rattle.reply_book.specs.Tables.{tables_in as tables_by};
 ghost use Rattle.fare_table.specs.Table.{IsTableOf};
-ghost use Rattle.table_commands.specs.Tables.{IsTableIn, IsFirstTable, AreTablesIn, AreTablesOf, IsTaken};
-ghost use Rattle.table_commands.specs.Tables.{IsTableFault, IsTableInFault, IsFirstFault, IsNotTaken, IsFurtherFault, AreRefused};
+ghost use Rattle.table_commands.specs.Tables.{IsTableIn, IsFirstTable, AreTablesIn, AreTablesOf};
+ghost use Rattle.table_commands.specs.Tables.{IsTaken};
+ghost use Rattle.table_commands.specs.Tables.{IsTableFault, IsTableInFault, IsFirstFault};
+ghost use Rattle.table_commands.specs.Tables.{IsNotTaken, IsFurtherFault, AreRefused};
 ghost use Rattle.table_commands.specs.Trial.{IsSupplyFault};
 
 use crate::detail::Detail;
@@ -15,10 +18,9 @@ use crate::files::WholeFiles;
 use crate::place::place_of;
 use fare_schedule::{Schedule, SupplyFault};
 use fare_table::{EXAMPLE_TABLE, Fares, TableFault};
-use line_replay::RunFault;
 use std::alloc::Global;
-use table_check::read_table;
-use table_notes::{Sheet, SurveyFault};
+use table_report::{Sheet, SurveyFault, read_table};
+use text_io::RunFault;
 
 /// The first fare table: that in a file, or the example table where no file is named.
 ///
@@ -103,8 +105,8 @@ fn supply_from<F: WholeFiles>(
     Ok(())
 }
 
-/// Adds a further table to a schedule. A fault is told with the table's place among them, from 1, and
-/// names its file.
+/// Adds a further table to a schedule. A fault is told with the table's place among them, from 1,
+/// and names its file.
 fn supply(
     alloc: Global,
     schedule: &mut Schedule,
@@ -153,15 +155,25 @@ pub(crate) fn table_of(alloc: Global, path: &str, bytes: &[u8]) -> Result<Fares,
     }
 }
 
-/// What is told of a table's fault beside its line: the file, and where in it the fault stands, with
-/// what stands there and what may.
-pub(crate) fn table_detail(alloc: Global, path: &str, bytes: &[u8], fault: TableFault) -> Detail {
+/// What is told of a table's fault beside its line: the file, and where in it the fault stands,
+/// with what stands there and what may.
+fn table_detail(alloc: Global, path: &str, bytes: &[u8], fault: TableFault) -> Detail {
     match Sheet::read(alloc, bytes) {
-        Ok(sheet) => match place_of(&sheet, fault) {
-            Some(place) => Detail::of(alloc, path, &place),
-            None => Detail::of_file(alloc, path),
-        },
+        Ok(sheet) => sheet_detail(alloc, path, &sheet, fault),
         Err(SurveyFault::Misread(misread)) => Detail::of(alloc, path, &misread),
         Err(SurveyFault::Memory) => Detail::of_file(alloc, path),
+    }
+}
+
+/// The same, of a table that is a document.
+pub(crate) fn sheet_detail(
+    alloc: Global,
+    path: &str,
+    sheet: &Sheet<'_>,
+    fault: TableFault,
+) -> Detail {
+    match place_of(sheet, fault) {
+        Some(place) => Detail::of(alloc, path, &place),
+        None => Detail::of_file(alloc, path),
     }
 }

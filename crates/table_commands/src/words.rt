@@ -2,9 +2,9 @@
 
 use crate::fault::TrialFault;
 use command_line::refuse_bytes;
-use line_replay::RunFault;
 use std::rt::Env;
 use std::{env, io};
+use text_io::RunFault;
 
 /// The words of the command line, the program's name first.
 ///

@@ -300,7 +300,8 @@ fn a_line_is_never_done_where_no_number_of_connections_is_named(rt: HostRuntime)
         "serve --table a --journal b --cards 10 --capacity 9 --listen c --lines 64 \
          --connections 1000001",
         "serve --table a --journal b --cards 10 --capacity 9 --listen c --lines 64 --connections x",
-        "serve --table a --journal b --cards 10 --capacity 9 --listen c --lines 64 --connections +5",
+        "serve --table a --journal b --cards 10 --capacity 9 --listen c --lines 64 \
+         --connections +5",
     ];
     assert_refused(&rt, rt.alloc(), &refused);
 }

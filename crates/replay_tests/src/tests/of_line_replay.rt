@@ -1,26 +1,25 @@
 //! What no clause says of replays: worked lines, the texts of answers, and what stands where a
 //! read, a write or an allocation fails.
 
-mod fakes;
 mod journeys;
 mod memory;
 mod revision;
 mod rows;
-mod stream;
 
 ghost use Rattle.std.specs.Prelude.{◌≡◌, [], IfSome};
 ghost use Rattle.fare_schedule.specs.Schedule.{revisions_of};
 
-use fakes::{Pieces, Taker};
+use crate::tests::fakes::{Pieces, Taker};
 use fare_schedule::Schedule;
 use fare_table::{EXAMPLE_TABLE, Fares};
-use line_replay::{RunFault, replay_text};
+use line_replay::{ReplayFault, replay_text};
 use rows::{ASKED_AGAIN, FIRST_PATH, MISSING_TOUCHES, REFUSALS};
 use std::alloc::{AllocError, Global};
 use std::fmt::Debug;
 use std::io::{Read, Write};
 use std::process::Abort;
 use std::test::Fail;
+use text_io::RunFault;
 
 /// A line that is asked, and the line that answers it.
 type Row = (&'static str, &'static str);
@@ -51,13 +50,13 @@ fn run<R: Read, W: Write>(
     reader: &mut R,
     writer: &mut W,
     turns: u32,
-) -> Result<Result<(), RunFault>, Fail> {
+) -> Result<Result<(), ReplayFault>, Fail> {
     let schedule = example(alloc).ok_or("a schedule")?;
     Ok(replay_text(alloc, schedule, 10, reader, writer, turns))
 }
 
 /// What is written for bytes that come in one piece, and how the run ends.
-fn replayed(alloc: Global, bytes: &[u8]) -> Result<(Vec<u8>, Result<(), RunFault>), Fail> {
+fn replayed(alloc: Global, bytes: &[u8]) -> Result<(Vec<u8>, Result<(), ReplayFault>), Fail> {
     let mut reader = bytes;
     let mut written = Vec::new(alloc);
     let ended = run(alloc, &mut reader, &mut written, 1_000)?;
@@ -78,7 +77,7 @@ fn assert_same_at<T: PartialEq + Debug + Copy, C: Debug + Copy>(
 fn assert_replayed<R: Abort + AllocGlobal, C: Debug + Copy>(
     rt: &R,
     bytes: &[u8],
-    end: Result<(), RunFault>,
+    end: Result<(), ReplayFault>,
     want: &[u8],
     at: C,
 ) -> Result<(), Fail> {
@@ -136,8 +135,8 @@ fn digits_of_either_case_and_a_last_line_without_a_line_feed_are_read(
 #[test]
 fn a_bad_line_is_answered_by_its_fault_and_ends_the_run(rt: HostRuntime) -> Result<(), Fail> {
     let alloc = rt.alloc();
-    let good =
-        b"000505000000010000000000000000000000000000000000000000000000000000000000000000000000000000000000000000000000000000000000000000000000";
+    let good = b"000505000000010000000000000000000000000000000000000000000000000000\
+          000000000000000000000000000000000000000000000000000000000000000000";
     let bad: [(&[u8], u64, usize); 10] = [
         (b"zz\n", 1, 21),
         (b"\n", 1, 21),
@@ -152,7 +151,7 @@ fn a_bad_line_is_answered_by_its_fault_and_ends_the_run(rt: HostRuntime) -> Resu
     ];
     for (bytes, number, size) in bad {
         let (written, ended) = replayed(alloc, bytes)?;
-        assert_same_at(&rt, ended, Err(RunFault::BadLine(number)), number);
+        assert_same_at(&rt, ended, Err(ReplayFault::BadLine(number)), number);
         let fault = b"0008ff01000000000000\n";
         assert_same_at(&rt, written.ends_with(fault), true, number);
         assert_same_at(&rt, written.len(), size, number);
@@ -164,7 +163,10 @@ fn a_bad_line_is_answered_by_its_fault_and_ends_the_run(rt: HostRuntime) -> Resu
 fn a_line_is_too_long_at_its_129th_byte_and_not_before(rt: HostRuntime) -> Result<(), Fail> {
     let alloc = rt.alloc();
     let zeros = [b'0'; 129];
-    for (size, fault) in [(128, RunFault::Read), (129, RunFault::BadLine(1))] {
+    for (size, fault) in [
+        (128, ReplayFault::Run(RunFault::Read)),
+        (129, ReplayFault::BadLine(1)),
+    ] {
         let mut reader = Pieces {
             rest: &zeros[..size],
             size: 64,
@@ -192,6 +194,7 @@ fn bytes_one_by_one_make_the_same_answers(rt: HostRuntime) -> Result<(), Fail> {
         size: 1,
         left: usize::MAX,
         fails: false,
+        holds: false,
     };
     let ended = run(alloc, &mut reader, &mut writer, 1_000)?;
     assert_same_at(&rt, ended, Ok(()), "end");
@@ -204,7 +207,7 @@ fn assert_read<R: Abort + AllocGlobal>(
     rt: &R,
     mut reader: Pieces<'_>,
     turns: u32,
-    end: Result<(), RunFault>,
+    end: Result<(), ReplayFault>,
     want: &[u8],
 ) -> Result<(), Fail> {
     let mut written = Vec::new(rt.alloc());
@@ -220,8 +223,8 @@ fn answers_stand_where_a_read_fails_or_is_one_too_many(rt: HostRuntime) -> Resul
     let asked = lines_of(alloc, &FIRST_PATH, false)?;
     let answered = lines_of(alloc, &FIRST_PATH, true)?;
     for (fails, turns, ended) in [
-        (true, 1_000, Err(RunFault::Read)),
-        (false, 1, Err(RunFault::Read)),
+        (true, 1_000, Err(ReplayFault::Run(RunFault::Read))),
+        (false, 1, Err(ReplayFault::Run(RunFault::Read))),
         (false, 2, Ok(())),
     ] {
         let reader = Pieces {
@@ -248,9 +251,10 @@ fn assert_begun<R: Abort + AllocGlobal>(
         size: 7,
         left,
         fails,
+        holds: false,
     };
     let ended = run(rt.alloc(), &mut reader, &mut writer, 1_000)?;
-    assert_same_at(rt, ended, Err(RunFault::Write), left);
+    assert_same_at(rt, ended, Err(ReplayFault::Run(RunFault::Write)), left);
     assert_same_at(rt, writer.taken.len(), left, left);
     assert_same_at(
         rt,

@@ -1,9 +1,9 @@
 //! Files by hand.
 ghost use Rattle.table_commands.specs.Files.{IsAnyReading};
 
-use line_replay::RunFault;
 use std::alloc::Global;
 use table_commands::{Detail, TrialFault, WholeFiles};
+use text_io::RunFault;
 
 /// These files, by their paths. There is no other.
 #[derive(Clone, Copy)]

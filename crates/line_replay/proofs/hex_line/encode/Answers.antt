@@ -1,4 +1,5 @@
-use Rattle.std.proofs.Common.{◌≡◌, ℕ, List, [], ◌∷◌, ◌++◌, ◌+◌, ◌*◌, ◌-◌, ◌/◌, ◌%◌, take, drop, slice_index, refl, ap, ◌∙◌, arith}
+use Rattle.std.proofs.Common.{◌≡◌, ℕ, List, [], ◌∷◌, ◌++◌, ◌+◌, ◌*◌, ◌-◌, ◌/◌, ◌%◌, take, drop, slice_index, refl, ap}
+use Rattle.std.proofs.Common.{◌∙◌, arith}
 use Rattle.hex.specs.Hex.{lower_digits, encode_lower}
 use Rattle.hex.proofs.Pairs.{encode_step, encode_done}
 use Rattle.line_replay.proofs.DigitLemmas.{put-pair}

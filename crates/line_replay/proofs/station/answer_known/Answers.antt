@@ -18,7 +18,8 @@ judged : (c : After-add) → c.add.result.1
     ≡ judge_after (tables_of c.args.book.now) (cards_of c.args.book.now) (history_of
     (entries_of c.args.book.now)) c.args.touch.now
 judged c =
-    judged-same (tables_of c.args.book.now) (tables_of c.ready.new.self) (cards_of c.args.book.now) (cards_of c.ready.new.self)
+    judged-same (tables_of c.args.book.now) (tables_of c.ready.new.self) (cards_of c.args.book.now)
+    (cards_of c.ready.new.self)
     (entries_of c.args.book.now) (entries_of c.ready.new.self)
     c.args.touch.now c.add.result.1 c.add.ensures.reply c.ready.ensures.tables c.ready.ensures.cards
     c.ready.ensures.entries
@@ -33,6 +34,7 @@ returns-clause-value c =
 pub returns-clause-entries : goal.returns-clause-entries
 returns-clause-entries c =
     let d = (goal.at.returns-clause-entries c).After-add in
-    entered-judged (tables_of c.args.book.now) (cards_of c.args.book.now) (entries_of c.args.book.now) (entries_of c.ready.new.self)
+    entered-judged (tables_of c.args.book.now) (cards_of c.args.book.now) (entries_of c.args.book.now)
+    (entries_of c.ready.new.self)
     (entries_of c.add.new.self) c.args.touch.now c.add.result.1 (few d)
     (judged d) c.ready.ensures.entries c.add.ensures.entries

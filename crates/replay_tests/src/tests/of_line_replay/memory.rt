@@ -2,12 +2,13 @@
 
 use super::assert_same_at;
 use super::revision::{both, revised_lines};
-use line_replay::{RunFault, replay_text};
+use line_replay::{ReplayFault, replay_text};
 use std::alloc::Global;
 use std::io;
 use std::io::Write;
 use std::process::Abort;
 use std::test::Fail;
+use text_io::RunFault;
 
 /// How often a replay that was refused memory is begun again.
 const TRIES: u32 = 10;
@@ -35,7 +36,7 @@ impl Write for Room {
 
 /// How the replay of the worked revision ends, whose answers stand as far as they were written.
 /// There is none where there was no memory for what it is given.
-fn attempt(rt: &impl Abort, alloc: Global) -> Option<Result<(), RunFault>> {
+fn attempt(rt: &impl Abort, alloc: Global) -> Option<Result<(), ReplayFault>> {
     let asked = revised_lines(alloc, false).ok()?;
     let answered = revised_lines(alloc, true).ok()?;
     let schedule = both(alloc)?;
@@ -57,7 +58,7 @@ fn a_replay_that_was_refused_memory_is_begun_again(rt: HostRuntime) -> Result<()
     for _ in 0..TRIES {
         match attempt(&rt, rt.alloc()) {
             Some(Ok(())) => return Ok(()),
-            Some(Err(RunFault::Memory)) | None => {}
+            Some(Err(ReplayFault::Run(RunFault::Memory))) | None => {}
             Some(Err(fault)) => return Err(fault.into()),
         }
     }

@@ -7,7 +7,7 @@ use super::rows::{FIRST_PATH, REVISION, UNKNOWN_TABLE};
 use super::{Row, assert_answered, assert_replayed, assert_same_at, example, lines_of};
 use fare_schedule::Schedule;
 use fare_table::{EXAMPLE_TABLE, Fares};
-use line_replay::{RunFault, replay_text};
+use line_replay::{ReplayFault, replay_text};
 use std::alloc::{AllocError, Global};
 use std::test::Fail;
 
@@ -83,7 +83,7 @@ fn a_revision_of_another_length_is_a_bad_line(rt: HostRuntime) -> Result<(), Fai
     let (revision, _) = REVISION[1];
     for size in [104, 105] {
         let digits = &revision.as_bytes()[..size];
-        let fault = Err(RunFault::BadLine(1));
+        let fault = Err(ReplayFault::BadLine(1));
         assert_replayed(&rt, digits, fault, b"0008ff01000000000000\n", size)?;
     }
     Ok(())

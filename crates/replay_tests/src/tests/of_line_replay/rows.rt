@@ -1,6 +1,6 @@
-//! Worked lines, each with its answer: the examples of docs/PROTOCOL.md, "Requests and their answers", and of
-//! docs/FARES.md, "Worked examples". Each table begins with an empty history, but for
-//! `ASKED_AGAIN`, which follows `FIRST_PATH`.
+//! Worked lines, each with its answer: the examples of docs/PROTOCOL.md, "Requests and their
+//! answers", and of docs/FARES.md, "Worked examples". Each table begins with an empty history, but
+//! for `ASKED_AGAIN`, which follows `FIRST_PATH`.
 
 /// An issue, a top-up of 2000, in at 2, and out at 1.
 pub const FIRST_PATH: [(&str, &str); 4] = [
@@ -167,11 +167,13 @@ pub const REFUSALS: [(&str, &str); 22] = [
 /// holds.
 pub const REVISION: [(&str, &str); 9] = [
     (
-        "0033060007000000050000000096cc50b0396b0e933971ad2464a508f630c6463f90c322da8393bcc1a546a9be00004e7e677b8d80",
+        "0033060007000000050000000096cc50b0396b0e933971ad2464a508f630c6463f90c322da8393bcc1a546a9be\
+         00004e7e677b8d80",
         "0014810007000000051b000000000000000000000000",
     ),
     (
-        "0033060007000000060000000096cc50b0396b0e933971ad2464a508f630c6463f90c322da8393bcc1a546a9be00004e7f677b8d80",
+        "0033060007000000060000000096cc50b0396b0e933971ad2464a508f630c6463f90c322da8393bcc1a546a9be\
+         00004e7f677b8d80",
         "00148100070000000609000000000000000000000000",
     ),
     (
@@ -191,11 +193,13 @@ pub const REVISION: [(&str, &str); 9] = [
         "00148100070000000a040000026c00000000000003d4",
     ),
     (
-        "0033060007000000060000000096cc50b0396b0e933971ad2464a508f630c6463f90c322da8393bcc1a546a9be00004e7f677b8d80",
+        "0033060007000000060000000096cc50b0396b0e933971ad2464a508f630c6463f90c322da8393bcc1a546a9be\
+         00004e7f677b8d80",
         "00148100070000000609000000000000000000000000",
     ),
     (
-        "0033060007000000060000000096cc50b0396b0e933971ad2464a508f630c6463f90c322da8393bcc1a546a9be00004e80677b8d80",
+        "0033060007000000060000000096cc50b0396b0e933971ad2464a508f630c6463f90c322da8393bcc1a546a9be\
+         00004e80677b8d80",
         "0008ff02000700000006",
     ),
     ("00050500000001", "000e850100000000000003d40000000a"),
@@ -205,7 +209,8 @@ pub const REVISION: [(&str, &str); 9] = [
 /// free. What the card holds, in at 2 under that number, and the revision under it.
 pub const UNKNOWN_TABLE: [(&str, &str); 4] = [
     (
-        "0033060007000000060000000096cc50b0396b0e933971ad2464a508f630c6463f90c322da8393bcc1a546a9be00004e7f677b8d80",
+        "0033060007000000060000000096cc50b0396b0e933971ad2464a508f630c6463f90c322da8393bcc1a546a9be\
+         00004e7f677b8d80",
         "0008ff06000700000006",
     ),
     ("00050500000001", "000e8501000000000000067200000004"),
@@ -214,7 +219,8 @@ pub const UNKNOWN_TABLE: [(&str, &str); 4] = [
         "00148100070000000601fffffc7c00000000000002ee",
     ),
     (
-        "0033060007000000060000000096cc50b0396b0e933971ad2464a508f630c6463f90c322da8393bcc1a546a9be00004e7f677b8d80",
+        "0033060007000000060000000096cc50b0396b0e933971ad2464a508f630c6463f90c322da8393bcc1a546a9be\
+         00004e7f677b8d80",
         "0008ff02000700000006",
     ),
 ];

@@ -1,13 +1,13 @@
 use Rattle.std.proofs.Common.{inr, refl}
 use Rattle.reply_book.specs.Tables.{tables_in}
 use Rattle.table_commands.proofs.TableLemmas.{handed-on}
-use Rattle.table_commands.specs.declared.fault.TrialFault.TheVariants.{Run}
+use Rattle.table_commands.specs.Trial.{replay_fault}
 use Rattle.table_commands.proofs.replay.replay_input.Goals as goal
 
 -- the run was by the tables of the words, and ended early
 pub returns-in_err-replay_text-clause-fault : goal.returns-in_err-replay_text-clause-fault
 returns-in_err-replay_text-clause-fault g c =
-    handed-on _ c.from_residual-in_err-replay_text.result (Run c.in_err-replay_text.field-0.0)
+    handed-on _ c.from_residual-in_err-replay_text.result (replay_fault c.in_err-replay_text.field-0.0)
     c.from_residual-in_err-replay_text.ensures.1
     (inr (
       c.in_err-replay_text.field-0.0,

@@ -9,6 +9,7 @@ pub returns-clause-fault : goal.returns-clause-fault
 returns-clause-fault g c =
     IfErr-weaker c.table_of.result (IsTableFault c.deref.result.now) _
     (λ fault is.
-    in-file (g.F.WholeFiles.gave c.args.files.now) c.args.path.now c.in_ok-bytes.bytes.items c.in_ok-bytes.ensures.ok fault
+    in-file (g.F.WholeFiles.gave c.args.files.now) c.args.path.now c.in_ok-bytes.bytes.items c.in_ok-bytes.ensures.ok
+    fault
     (subst (λ (bytes : List ℕ). IsTableFault bytes fault) c.deref.ensures.value is))
     c.table_of.ensures.fault

@@ -1,3 +1,0 @@
-mod Examples
-pub mod CheckLemmas
-pub mod FareLemmas

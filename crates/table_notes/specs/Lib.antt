@@ -1,4 +1,0 @@
-pub mod Survey
-pub mod Place
-pub mod Found
-pub mod Changes

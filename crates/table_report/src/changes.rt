@@ -1,0 +1,86 @@
+//! What one table says otherwise than another, a line for each place.
+
+ghost use Rattle.std.specs.Prelude.{◌≡◌, IfOk, string_bytes, option_map};
+ghost use Rattle.table_report.specs.Changes.{value_among, line_if_other, line_if_new, line_of};
+ghost use Rattle.table_report.specs.Changes.{lines_of_old, lines_of_new, changes_of};
+
+use crate::reading::Said;
+use std::alloc::{AllocError, Global};
+
+/// What stands for the value where a table says nothing.
+const NOTHING: &str = "none";
+
+/// The places at which two tables differ, a line each: first those of the old table, in its order,
+/// and then those that the new one alone has. Tables that say the same give no line.
+pub fn changes_of(alloc: Global, old: &[Said], new: &[Said]) -> Result<String, AllocError>
+    ensures { IfOk result (λ text. string_bytes text ≡ changes_of old.now new.now) }
+{
+    let mut text = old_lines(alloc, old, new)?;
+    let others = new_lines(alloc, old, new)?;
+    text.push_str(&others)?;
+    Ok(text)
+}
+
+/// The lines of the places of the old table.
+fn old_lines(alloc: Global, old: &[Said], new: &[Said]) -> Result<String, AllocError>
+    ensures { IfOk result (λ text. string_bytes text ≡ lines_of_old new.now old.now) }
+{
+    let mut text = String::new(alloc);
+    for said in old {
+        let line = other_line(alloc, said, new)?;
+        text.push_str(&line)?;
+    }
+    Ok(text)
+}
+
+/// The lines of the places that the new table alone has.
+fn new_lines(alloc: Global, old: &[Said], new: &[Said]) -> Result<String, AllocError>
+    ensures { IfOk result (λ text. string_bytes text ≡ lines_of_new old.now new.now) }
+{
+    let mut text = String::new(alloc);
+    for said in new {
+        let line = new_line(alloc, old, said)?;
+        text.push_str(&line)?;
+    }
+    Ok(text)
+}
+
+/// The line of a place of the old table, empty where the new one says the same.
+fn other_line(alloc: Global, said: &Said, new: &[Said]) -> Result<String, AllocError>
+    ensures { IfOk result (λ text. string_bytes text ≡ line_if_other new.now said.now) }
+{
+    match value_among(new, &said.place) {
+        Some(value) if *value == *said.value => Ok(String::new(alloc)),
+        Some(value) => line_of(alloc, &said.place, &said.value, value),
+        None => line_of(alloc, &said.place, &said.value, NOTHING),
+    }
+}
+
+/// The line of a place of the new table, empty where the old one has it too.
+fn new_line(alloc: Global, old: &[Said], said: &Said) -> Result<String, AllocError>
+    ensures { IfOk result (λ text. string_bytes text ≡ line_if_new old.now said.now) }
+{
+    match value_among(old, &said.place) {
+        Some(_) => Ok(String::new(alloc)),
+        None => line_of(alloc, &said.place, NOTHING, &said.value),
+    }
+}
+
+/// What a table says at a place, where it has it.
+fn value_among<'a>(said: &'a [Said], place: &str) -> Option<&'a str>
+    ensures { option_map (λ value. value.now) result ≡ value_among place.now said.now }
+{
+    for one in said {
+        if *one.place == *place {
+            return Some(&one.value);
+        }
+    }
+    None
+}
+
+/// The line of a place, with both values.
+fn line_of(alloc: Global, place: &str, old: &str, new: &str) -> Result<String, AllocError>
+    ensures { IfOk result (λ text. string_bytes text ≡ line_of place.now old.now new.now) }
+{
+    format!(in alloc; "{place}: {old} -> {new}\n")
+}
