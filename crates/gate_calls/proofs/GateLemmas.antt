@@ -1,5 +1,6 @@
 -- Which step each call of a client is.
-use Rattle.std.proofs.Common.{◌≡◌, inl, inr, ℕ, suc, ◌-◌, true, List, [], ◌∷◌, ◌++◌, length, Option, Some, IfSome, is_some, refl, sym, ap, ◌∙◌, subst, append-nil, arith}
+use Rattle.std.proofs.Common.{◌≡◌, inl, inr, ℕ, suc, ◌-◌, true, List, [], ◌∷◌, ◌++◌, length, Option, Some, IfSome}
+use Rattle.std.proofs.Common.{is_some, refl, sym, ap, ◌∙◌, subst, append-nil, arith}
 use Rattle.std.specs.Prelude.{slice_get}
 use Rattle.std.proofs.lemmas.List.Elements.{All-nil, All-cons}
 use Rattle.std.proofs.lemmas.Option.{slice_get-get_or}
@@ -17,7 +18,8 @@ use Rattle.gate_client.specs.Heard.{frame_of}
 use Rattle.gate_client.proofs.NumberLemmas.{slice_get-pushed}
 use Rattle.gate_rounds.specs.Joint.{Joint, is_any, IsWaiting}
 use Rattle.gate_calls.specs.Gate.{IsGateOf}
-use Rattle.gate_calls.specs.Calls.{AreWritten, IsAsking, IsSending, IsSendingInPart, IsHearing, IsOpening, IsOpeningAfterAsking}
+use Rattle.gate_calls.specs.Calls.{AreWritten, IsAsking, IsSending, IsSendingInPart, IsHearing, IsOpening}
+use Rattle.gate_calls.specs.Calls.{IsOpeningAfterAsking}
 
 -- ---- lists of touches
 
@@ -149,7 +151,7 @@ module _ {D : Type 0} {g : Ghosts D} where
         | inr with_it ↦ inr (
           record { touch = touch; none = shows.waits ∙ ap is_some none; own = refl; number = refl; is = refl },
           opens client gate (room_of old) (record s { asked = s.asked ++ touch ∷ []; waits = true }) content
-              (subst (λ (n : ℕ). Image (header_by n (room_of old)) (s.asked ++ touch ∷ []) content) shows.number with_it)
-              honest opened,
+              (subst (λ (n : ℕ). Image (header_by n (room_of old)) (s.asked ++ touch ∷ []) content) shows.number
+              with_it) honest opened,
         )
       ]

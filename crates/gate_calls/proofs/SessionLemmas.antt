@@ -1,5 +1,6 @@
 -- A whole session is a run of the station's steps.
-use Rattle.std.proofs.Common.{◌≡◌, ◌⊎◌, inl, inr, ℕ, suc, List, [], ◌∷◌, ◌++◌, flat_map, Some, refl, sym, ap, ◌∙◌, subst, append_assoc, arith}
+use Rattle.std.proofs.Common.{◌≡◌, ◌⊎◌, inl, inr, ℕ, suc, List, [], ◌∷◌, ◌++◌, flat_map, Some, refl, sym, ap, ◌∙◌}
+use Rattle.std.proofs.Common.{subst, append_assoc, arith}
 use Rattle.std.specs.Prelude.{Contains, All}
 use Rattle.std.proofs.lemmas.List.Elements.{All-nil, All-cons, All-head, All-tail, All-append}
 use Rattle.oyster_account.specs.declared.touch.Touch.{Touch}
@@ -12,8 +13,9 @@ use Rattle.gate_session.specs.declared.session.Served.{Served}
 use Rattle.gate_session.specs.Frames.{RequestFits, request_frame}
 use Rattle.gate_session.specs.Answers.{AnswerFits, answer_frame}
 use Rattle.gate_session.specs.Clerk.{IsRun as IsClerksRun}
-use Rattle.gate_session.specs.Session.{Exchange, HasEnded, IsSession, IsRefused, IsAnswerCut, IsRefusalCut, joined, refusal}
-use Rattle.gate_session.specs.Writing.{IsBeginning}
+use Rattle.gate_session.specs.Session.{Exchange, HasEnded, IsSession, IsRefused, IsAnswerCut, IsRefusalCut, joined}
+use Rattle.gate_session.specs.Session.{refusal}
+use Rattle.text_io.specs.Writing.{IsBeginning}
 use Rattle.gate_rounds.specs.Joint.{Joint}
 use Rattle.gate_rounds.specs.Lines.{IsWritten, AreFirstOf}
 use Rattle.gate_rounds.proofs.ListLemmas.{contained, placed}

@@ -1,5 +1,7 @@
 -- A touch that is sent, served and heard over a line in memory.
-use Rattle.std.proofs.Common.{◌≡◌, ◌⊎◌, inl, inr, ℕ, zero, suc, true, false, List, [], ◌∷◌, ◌++◌, length, get_or, take, drop, Option, Some, None, IfSome, Result, Ok, Err, IfOk, refl, sym, ap, ◌∙◌, subst, append-nil, append_assoc}
+use Rattle.std.proofs.Common.{◌≡◌, ◌⊎◌, inl, inr, ℕ, zero, suc, true, false, List, [], ◌∷◌, ◌++◌, length, get_or, take}
+use Rattle.std.proofs.Common.{drop, Option, Some, None, IfSome, Result, Ok, Err, IfOk, refl, sym, ap, ◌∙◌, subst}
+use Rattle.std.proofs.Common.{append-nil, append_assoc, is_some}
 use Rattle.std.specs.Prelude.{Contains, slice_get, IsSome}
 use Rattle.std.proofs.lemmas.List.Elements.{All-nil, All-cons}
 use Rattle.oyster_account.specs.declared.touch.Touch.{Touch}
@@ -20,16 +22,17 @@ use Rattle.gate_session.specs.declared.answer.Answer.TheVariants as answers
 use Rattle.gate_session.specs.Answers.{AnswerFits, ReplyFits, answer_frame}
 use Rattle.gate_session.specs.Clerk.{IsRun as IsClerksRun}
 use Rattle.gate_session.specs.Session.{Exchange, IsRefused, IsAnswerCut, IsRefusalCut, refusal}
-use Rattle.gate_session.specs.Writing.{IsBeginning, Wrote}
+use Rattle.text_io.specs.Writing.{IsBeginning, Wrote}
 use Rattle.gate_client.specs.declared.client.Client.{Client}
-use Rattle.gate_client.specs.Client.{HasAsked, answered, waits_of}
+use Rattle.gate_client.specs.Client.{HasAsked, answered, gate_of, waits_of}
 use Rattle.gate_client.specs.File.{last_of}
 use Rattle.gate_client.specs.Heard.{frame_of}
 use Rattle.gate_rounds.specs.Joint.{Joint}
 use Rattle.gate_rounds.specs.Steps.{Asks, Step, is_reply}
 use Rattle.gate_rounds.specs.Agreement.{IsRun}
 use Rattle.gate_rounds.specs.Lines.{IsWritten, AreFirstOf}
-use Rattle.gate_rounds.proofs.ListLemmas.{contained, placed, contains-left, contains-last, contains-none, contains-push_cases}
+use Rattle.gate_rounds.proofs.ListLemmas.{contained, placed, contains-left, contains-last, contains-none}
+use Rattle.gate_rounds.proofs.ListLemmas.{contains-push_cases}
 use Rattle.gate_rounds.proofs.LineLemmas.{answers as bring_answers, by_line}
 use Rattle.gate_rounds.proofs.StepLemmas.{run-append}
 use Rattle.gate_calls.specs.Gate.{IsGateOf, asked_in, sent_in, heard_in}
@@ -180,8 +183,8 @@ module _ {C : Type 0} (gives : C → Request → Answer → C → Type 0) (stati
       (were s.sent there) shows
 
   -- a reply that is heard is that of the touch's entry
-  pub stands : (back : List ℕ) (reply : Reply) → IsLegal (station a).tables (station a).cards (history_of (station a).history)
-      → IsBeginning back text
+  pub stands : (back : List ℕ) (reply : Reply)
+      → IsLegal (station a).tables (station a).cards (history_of (station a).history) → IsBeginning back text
       → IsBeginning (answer_frame (answers.Reply touch.gate touch.number reply)) back → ReplyFits reply
       → StandsOnce (station b).history (record { touch = touch; reply = reply })
   stands back reply legal later heard reply_fits =
@@ -279,13 +282,13 @@ pub settled : {C D : Type 0} {g : Ghosts D} (gives : C → Request → Answer �
     → HasAsked asked new → new ≡ answered old → IsBeginning back text
     → IsBeginning (answer_frame (answers.Reply touch.gate touch.number reply)) back → ReplyFits reply
     → IsSettled asked touch reply new (station b).history
-settled {D = D} {g = g} gives station keeps touch frame bytes text back a b fits whole brought served asked old new reply
-    has waits legal kept answered later heard reply_fits = record {
+settled {D = D} {g = g} gives station keeps touch frame bytes text back a b fits whole brought served asked old new
+    reply has waits legal kept answered later heard reply_fits = record {
       file = kept;
       last = subst (λ (o : Option Touch). IfSome o (λ t. last_of asked ≡ Some t)) waits has.last;
       once =
-          stands gives station keeps.does keeps.fitting touch frame bytes text a b fits whole brought served back reply legal
-          later heard reply_fits;
+          stands gives station keeps.does keeps.fitting touch frame bytes text a b fits whole brought served back reply
+          legal later heard reply_fits;
       none = ap (λ (c : Client D g). waits_of c) answered;
     }
 
@@ -296,6 +299,26 @@ pub round-none : {D E : Type 0} {g : Ghosts D} (gate cards : ℕ) (s : Joint) (t
 round-none {D = D} {g = g} gate cards s touch fault client new station shows kept =
     subst (λ (c : Client D g). IsRound gate cards s touch (Err fault) c station) (sym kept)
     (record { new = s; between = []; run = refl; told = refl; shown = shows })
+
+-- no touch was asked, and the client shows what it showed
+pub round-unasked : {D E : Type 0} {g : Ghosts D} (gate cards : ℕ) (s : Joint) (touch : Touch) (fault : E)
+    (client new : Client D g) (station : StationState) → IsShown gate cards s client station
+    → gate_of new ≡ gate_of client → HasAsked s.asked new → waits_of new ≡ waits_of client
+    → IsRound gate cards s touch (Err fault) new station
+round-unasked gate cards s touch fault client new station shows number asked waits = record {
+  new = s;
+  between = [];
+  run = refl;
+  told = refl;
+  shown = record {
+    gate_is = record {
+      number = number ∙ shows.gate_is.number;
+      asked = asked;
+      waits = shows.gate_is.waits ∙ sym (ap is_some waits);
+    };
+    station_is = shows.station_is;
+  };
+}
 
 -- ---- a touch that is asked first
 

@@ -1,5 +1,6 @@
 -- What a station does of one request, as steps.
-use Rattle.std.proofs.Common.{◌≡◌, inl, inr, ℕ, List, [], ◌∷◌, ◌++◌, length, refl, sym, ap, ◌∙◌, subst, append-nil, append_assoc}
+use Rattle.std.proofs.Common.{◌≡◌, inl, inr, ℕ, List, [], ◌∷◌, ◌++◌, length, refl, sym, ap, ◌∙◌, subst, append-nil}
+use Rattle.std.proofs.Common.{append_assoc}
 use Rattle.std.specs.Prelude.{slice_get}
 use Rattle.oyster_account.specs.declared.touch.Touch.{Touch}
 use Rattle.oyster_account.specs.declared.reply.Reply.{Reply}
@@ -29,8 +30,8 @@ pub legal-once : (station : StationState)
     → IsLegal station.tables station.cards (history_of station.history) → AreNamedOnce (touches_of station.history)
 legal-once station legal = subst AreNamedOnce (touches_in-history_of station.history) legal.once
 
-module _ (a b : StationState) (touch : Touch) (answer : Answer) (legal : IsLegal a.tables a.cards (history_of a.history))
-    (is : IsEntered a b touch answer) where
+module _ (a b : StationState) (touch : Touch) (answer : Answer)
+    (legal : IsLegal a.tables a.cards (history_of a.history)) (is : IsEntered a b touch answer) where
   abbrev entry : Entry
   entry = record { touch = touch; reply = is.reply; seat = is.seat }
 

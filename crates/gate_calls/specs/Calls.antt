@@ -10,10 +10,11 @@ use Rattle.tap_journal.specs.Image.{Image, WithOrWithout}
 use Rattle.gate_session.specs.declared.request.Request.TheVariants as requests
 use Rattle.gate_session.specs.declared.answer.Answer.TheVariants as answers
 use Rattle.gate_session.specs.Frames.{RequestFits, request_frame}
-use Rattle.gate_session.specs.Writing.{IsCutShort}
+use Rattle.text_io.specs.Writing.{IsCutShort}
 use Rattle.gate_client.specs.declared.client.Client.{Client}
 use Rattle.gate_client.specs.File.{header_by, next_touch}
-use Rattle.gate_client.specs.Client.{HasAsked, IsOpened, answered, gate_of, waits_of, disk_of, header_in}
+use Rattle.gate_client.specs.Client.{HasAsked, IsOpened, answered, gate_of, waits_of, disk_of}
+use Rattle.gate_client.specs.Client.{header_in}
 use Rattle.gate_client.specs.Heard.{frame_of}
 use Rattle.gate_rounds.specs.Joint.{Joint}
 use Rattle.gate_rounds.specs.Premises.{Line}
@@ -72,7 +73,8 @@ module _ {D : Type 0} {g : Ghosts D} where
       → Image (header_by gate capacity) s.asked content → g.honest (disk_of client)
       → IsOpened gate content client → LeadsTo Opens gate s (opened_in s) client
 
-  -- what an opening behind a crash of `Client::ask` is: the step Opens alone, or Asks and then Opens
+  -- what an opening behind a crash of `Client::ask` is: the step Opens alone, or Asks and then
+  -- Opens
   abbrev pub OpensEither : ℕ → Joint → Touch → Client D g → Type 0
   OpensEither gate s touch client = LeadsTo Opens gate s (opened_in s) client
       ⊎ (Asks gate s (asked_in s touch)

@@ -1,5 +1,6 @@
 pub mod Gate
 pub mod Calls
 pub mod Station
+pub mod BookClerk
 pub mod Sessions
 pub mod Settled

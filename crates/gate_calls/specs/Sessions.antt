@@ -9,7 +9,7 @@ use Rattle.gate_session.specs.declared.session.Served.{Served}
 use Rattle.gate_session.specs.Frames.{RequestFits, request_frame}
 use Rattle.gate_session.specs.Answers.{AnswerFits, answer_frame}
 use Rattle.gate_session.specs.Session.{IsSession}
-use Rattle.gate_session.specs.Writing.{IsBeginning}
+use Rattle.text_io.specs.Writing.{IsBeginning}
 use Rattle.gate_rounds.specs.Joint.{Joint}
 use Rattle.gate_rounds.specs.Premises.{Line}
 use Rattle.gate_rounds.specs.Agreement.{IsRun}

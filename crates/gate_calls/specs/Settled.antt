@@ -1,5 +1,6 @@
 -- What stands where a touch was asked, sent over a line in memory, and its reply heard.
-use Rattle.std.specs.Prelude.{◌≡◌, ℕ, IsTrue, List, [], ◌∷◌, ◌++◌, Some, None, Result, Ok, Err, slice_get}
+use Rattle.std.specs.Prelude.{◌≡◌, ℕ, IsTrue, List, [], ◌∷◌, ◌++◌, Some, None, Result, Ok, Err}
+use Rattle.std.specs.Prelude.{false, slice_get}
 use Rattle.oyster_account.specs.declared.touch.Touch.{Touch}
 use Rattle.oyster_account.specs.declared.reply.Reply.{Reply}
 use Rattle.oyster_account.specs.declared.reply.Judged.{Judged}
@@ -11,12 +12,12 @@ use Rattle.gate_session.specs.declared.request.Request.{Request}
 use Rattle.gate_session.specs.declared.answer.Answer.{Answer}
 use Rattle.gate_session.specs.declared.session.Served.{Served}
 use Rattle.gate_session.specs.Session.{IsSession}
-use Rattle.gate_session.specs.Writing.{IsBeginning}
+use Rattle.text_io.specs.Writing.{IsBeginning}
 use Rattle.gate_client.specs.declared.client.Client.{Client}
 use Rattle.gate_client.specs.File.{last_of}
-use Rattle.gate_client.specs.Client.{HasAsked, waits_of}
+use Rattle.gate_client.specs.Client.{HasAsked, gate_of, waits_of}
 use Rattle.gate_rounds.specs.Joint.{Joint}
-use Rattle.gate_rounds.specs.Agreement.{IsRun}
+use Rattle.gate_rounds.specs.Agreement.{IsRun, IsStart}
 use Rattle.gate_calls.specs.Gate.{IsGateOf}
 use Rattle.gate_calls.specs.Station.{StationState, IsStationOf}
 
@@ -55,6 +56,26 @@ pub record IsShown {D : Type 0} {g : Ghosts D} (gate cards : ℕ) (s : Joint)
     (client : Client D g) (station : StationState) : Type 0 where
   pub gate_is : IsGateOf gate s client
   pub station_is : IsStationOf cards s station
+
+-- what a gate and this station show before the gate's first touch
+abbrev pub first_of : StationState → Joint
+first_of station = record {
+  asked = [];
+  waits = false;
+  sent = [];
+  tables = station.tables;
+  history = station.history;
+  answers = [];
+  told = [];
+}
+
+-- a client that has kept no touch, and this station, which has no entry, are where the law of
+-- gate_rounds begins, and show that state
+abbrev pub DoesStart : {D : Type 0} {g : Ghosts D} → Client D g → StationState → Type 0
+DoesStart client station = (gate : ℕ) → gate_of client ≡ gate → HasAsked [] client
+    → waits_of client ≡ None → station.history ≡ []
+    → IsStart gate station.cards (first_of station)
+    × IsShown gate station.cards (first_of station) client station
 
 -- what the caller was told before, and this reply to the touch where there is one
 abbrev pub told_by : {E : Type 0} → List Judged → Touch → Result Reply E → List Judged

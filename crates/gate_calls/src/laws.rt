@@ -2,8 +2,11 @@
 //! which steps of `gate_rounds` they are.
 ghost use Rattle.gate_calls.specs.Calls.{IsAsking, IsSending, IsSendingInPart, IsHearing};
 ghost use Rattle.gate_calls.specs.Calls.{IsOpening, IsOpeningAfterAsking};
+ghost use Rattle.gate_calls.specs.Station.{KeepsStation, station_of};
 ghost use Rattle.gate_calls.specs.Sessions.{AreSessionsRuns};
+ghost use Rattle.gate_calls.specs.Settled.{HasLegal, DoesStart};
 
+use crate::book_clerk::BookClerk;
 use gate_client::Client;
 use gate_session::Clerk;
 use tap_disk::Disk;
@@ -38,3 +41,20 @@ pub fn opening_is_a_step<D: Disk>(old: &Client<D>, opened: &Client<D>)
 pub fn sessions_are_runs<C: Clerk>()
     ensures { AreSessionsRuns C.gives }
 {}
+
+/// The clerk of a book keeps the station of that book, whose history is legal: so of it the laws
+/// hold in which a clerk keeps a station.
+pub fn books_keep_stations(clerk: &BookClerk)
+    ensures keeps { KeepsStation ⟦<BookClerk as Clerk>⟧.gives station_of }
+    ensures legal { HasLegal (station_of clerk.now) }
+{
+    clerk.learn();
+}
+
+/// A client that has kept no touch and the clerk of a book with no entry are where the law of
+/// `gate_rounds` begins: so gate and station agree after any number of runs from there.
+pub fn new_ones_start<D: Disk>(client: &Client<D>, clerk: &BookClerk)
+    ensures { DoesStart client.now (station_of clerk.now) }
+{
+    clerk.learn();
+}

@@ -1,11 +1,12 @@
 //! A gate and a station over a line in memory: a touch is asked, sent and served, and its reply is
 //! heard.
-ghost use Rattle.std.specs.Prelude.{◌≡◌, ◌≢◌, ℕ, List, [], ◌∷◌, ◌++◌, Some, Err, IsSome, IfOk, OnOk, OnErr, vec_items};
+ghost use Rattle.std.specs.Prelude.{◌≡◌, ℕ, List, [], ◌∷◌, ◌++◌, Some, IsSome, IfOk, OnOk};
+ghost use Rattle.std.specs.Prelude.{OnErr, vec_items};
 ghost use Rattle.oyster_account.specs.declared.touch.Touch.{Touch};
 ghost use Rattle.oyster_account.specs.Touch.{Fits};
 ghost use Rattle.gate_session.specs.declared.answer.Answer.TheVariants as answers;
 ghost use Rattle.gate_session.specs.Answers.{answer_frame, ReplyFits};
-ghost use Rattle.gate_session.specs.Writing.{IsBeginning};
+ghost use Rattle.text_io.specs.Writing.{IsBeginning};
 ghost use Rattle.gate_client.specs.Heard.{frame_of};
 ghost use Rattle.gate_client.specs.File.{next_touch};
 ghost use Rattle.gate_client.specs.Client.{HasAsked, answered, gate_of, waits_of};
@@ -66,11 +67,10 @@ pub fn ask_and_settle<D: Disk, C: Clerk, H: Wait>(
         (next_touch (gate_of client.old) asked card act) reply client.new
         (station clerk.new).history) }
 
-    // Whatever is lost, what came of it are steps of the law. After a failing disk the gate's file
-    // has to be opened again.
+    // Whatever is lost, what came of it are steps of the law: none where the touch isn't kept. After
+    // a failing disk the gate's file has to be opened again, as `opening_is_a_step` has it.
     ensures steps { (station : C → StationState) (gate cards : ℕ) (s : Joint)
         → KeepsStation C.gives station → IsShown gate cards s client.old (station clerk.old)
-        → result ≢ Err (TouchFault.Unasked AskFault.Device)
         → IsRound gate cards s (next_touch gate s.asked card act) result client.new
         (station clerk.new) }
 {

@@ -3,6 +3,7 @@
 //!
 //! A client or station is let go of by a call of `drop`: a function in which one goes out of scope
 //! takes longer to prove.
+mod books;
 mod rounds;
 mod station;
 
@@ -19,6 +20,9 @@ use tap_disk::MemoryDisk;
 
 /// The gate of the tests.
 const GATE: u16 = 7;
+
+/// No answer came, or a part of one.
+const NONE: SettleFault = SettleFault::Unheard(HearFault::NoAnswer);
 
 /// A line that loses nothing.
 const WHOLE: Carried = Carried {
@@ -118,11 +122,11 @@ fn opened_again(rt: &impl Abort, alloc: Global, client: Client<MemoryDisk>) -> C
 }
 
 /// What comes of the touch that waits.
-fn settled<R: Abort + Wait>(
+fn settled<R: Abort + Wait, C: Clerk>(
     rt: &R,
     alloc: Global,
     client: &mut Client<MemoryDisk>,
-    station: &mut Script,
+    station: &mut C,
     carried: Carried,
 ) -> Result<Reply, SettleFault> {
     let waits = client.waiting().is_some();

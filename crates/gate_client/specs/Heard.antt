@@ -6,7 +6,7 @@ use Rattle.gate_session.specs.declared.request.Request.TheVariants as requests
 use Rattle.gate_session.specs.declared.answer.Answer.{Answer}
 use Rattle.gate_session.specs.declared.answer.Answer.TheVariants as answers
 use Rattle.gate_session.specs.Frames.{request_frame}
-use Rattle.gate_session.specs.Writing.{IsCutShort}
+use Rattle.text_io.specs.Writing.{IsCutShort}
 use Rattle.gate_client.specs.declared.fault.LineFault.{LineFault}
 
 -- the one frame of a touch

@@ -11,5 +11,5 @@ mod line;
 
 pub use client::Client;
 pub use fault::{AskFault, ClientFault, FileFault, HearFault, LineFault};
-pub use file::{CARDS, TAG};
+pub use file::{CARDS, TAG, first_foreign, tag_of};
 pub use laws::{one_file, one_number};

@@ -6,14 +6,15 @@ ghost use Rattle.oyster_account.specs.Touch.{Fits};
 ghost use Rattle.gate_session.specs.declared.answer.Answer.TheVariants as answers;
 ghost use Rattle.gate_session.specs.declared.frame.TheConstants.{ANSWER_SIZE, REQUEST_SIZE};
 ghost use Rattle.gate_session.specs.Answers.{answer_frame};
-ghost use Rattle.gate_session.specs.Writing.{Wrote};
+ghost use Rattle.text_io.specs.Writing.{Wrote};
 ghost use Rattle.gate_client.specs.Heard.{frame_of, IsSent, IsUnder};
 
 use crate::{HearFault, LineFault};
 use byteorder::{BigEndian, ByteOrder};
-use gate_session::{ANSWER_SIZE, Answer, REQUEST_SIZE, write_whole};
+use gate_session::{ANSWER_SIZE, Answer, REQUEST_SIZE};
 use oyster_account::{Act, Reply, TOUCH_SIZE, Touch, read_i32, read_u16, read_u32};
 use std::io::{Read, Write};
+use text_io::write_whole;
 
 /// The bytes that a frame's length takes.
 const LENGTH_SIZE: usize = REQUEST_SIZE - TOUCH_SIZE;

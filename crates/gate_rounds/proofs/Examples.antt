@@ -12,7 +12,8 @@ use Rattle.gate_session.specs.declared.answer.Answer.TheVariants as answers
 use Rattle.gate_rounds.specs.Joint.{Joint, is_any}
 use Rattle.gate_rounds.specs.Steps.{Asks, OthersSend, Enters, Hears, Opens, Restarts}
 use Rattle.gate_rounds.proofs.ListLemmas.{placed, contains-none}
-use Rattle.gate_rounds.proofs.RunExamples.{issue, issued, issued_before, first, second, strange, entry, judged, answer, differ, start, asked, sent}
+use Rattle.gate_rounds.proofs.RunExamples.{issue, issued, issued_before, first, second, strange, entry, judged, answer}
+use Rattle.gate_rounds.proofs.RunExamples.{differ, start, asked, sent}
 
 -- the touch of another card under the first one's name
 abbrev again : Touch

@@ -1,5 +1,6 @@
 -- What is read of a line is the first of what was written on it.
-use Rattle.std.proofs.Common.{◌≡◌, ◌⊎◌, inl, inr, ℕ, List, [], ◌∷◌, ◌++◌, length, flat_map, refl, sym, ap, ◌∙◌, subst, append_assoc, arith}
+use Rattle.std.proofs.Common.{◌≡◌, ◌⊎◌, inl, inr, ℕ, List, [], ◌∷◌, ◌++◌, length, flat_map, refl, sym, ap, ◌∙◌, subst}
+use Rattle.std.proofs.Common.{append_assoc, arith}
 use Rattle.std.specs.Prelude.{Contains}
 use Rattle.std.specs.List.{All}
 use Rattle.std.proofs.lemmas.List.{append-nil}
@@ -8,7 +9,7 @@ use Rattle.gate_session.specs.declared.request.Request.{Request}
 use Rattle.gate_session.specs.declared.answer.Answer.{Answer}
 use Rattle.gate_session.specs.Frames.{RequestFits, request_frame}
 use Rattle.gate_session.specs.Answers.{AnswerFits, answer_frame}
-use Rattle.gate_session.specs.Writing.{IsCutShort}
+use Rattle.text_io.specs.Writing.{IsCutShort}
 use Rattle.gate_session.proofs.FrameLemmas.{one_frame}
 use Rattle.gate_session.proofs.AnswerLemmas.{one_answer}
 use Rattle.gate_rounds.specs.Lines.{AreFirstOf, DoesBringFirst, DoLinesBringRequests, DoLinesBringAnswers, AreByLine}

@@ -8,7 +8,8 @@ use Rattle.gate_rounds.specs.Agreement.{IsRun}
 use Rattle.gate_rounds.specs.Weaker.{AsksForAnother, HearsAnyGate, HearsUnasked, DoesBreak}
 use Rattle.gate_rounds.proofs.ListLemmas.{contains-none}
 use Rattle.gate_rounds.proofs.StepLemmas.{run-append}
-use Rattle.gate_rounds.proofs.RunExamples.{issued, first, strange, entry, judged, answer, head, differ, on_literals, starts}
+use Rattle.gate_rounds.proofs.RunExamples.{issued, first, strange, entry, judged, answer, head, differ, on_literals}
+use Rattle.gate_rounds.proofs.RunExamples.{starts}
 use Rattle.gate_rounds.proofs.WeakerLemmas.{lost, allowed, here}
 
 module _ (tables : Tables) where

@@ -6,10 +6,13 @@ use Rattle.reply_book.specs.Tables.{Tables}
 use Rattle.reply_book.proofs.CallerLemmas.{legal-none}
 use Rattle.gate_rounds.specs.Joint.{Joint}
 use Rattle.gate_rounds.specs.Steps.{Step}
-use Rattle.gate_rounds.specs.Weaker.{EntersUnsent, HearsUnwritten, AnybodySends, OpensAnother, RestartsAnother, EntersUnjudged, DoesBreak}
+use Rattle.gate_rounds.specs.Weaker.{EntersUnsent, HearsUnwritten, AnybodySends, OpensAnother, RestartsAnother}
+use Rattle.gate_rounds.specs.Weaker.{EntersUnjudged, DoesBreak}
 use Rattle.gate_rounds.proofs.StepLemmas.{run-append}
-use Rattle.gate_rounds.proofs.RunExamples.{issued, issued_before, first, strange, entry, judged, head, differ, on_literals, asked, starts}
-use Rattle.gate_rounds.proofs.WeakerLemmas.{lost, stray, allowed, here, entered, heard, to_entered, to_heard, runs_to_entered, then}
+use Rattle.gate_rounds.proofs.RunExamples.{issued, issued_before, first, strange, entry, judged, head, differ}
+use Rattle.gate_rounds.proofs.RunExamples.{on_literals, asked, starts}
+use Rattle.gate_rounds.proofs.WeakerLemmas.{lost, stray, allowed, here, entered, heard, to_entered, to_heard}
+use Rattle.gate_rounds.proofs.WeakerLemmas.{runs_to_entered, then}
 
 module _ (tables : Tables) where
   abbrev unsent : Joint

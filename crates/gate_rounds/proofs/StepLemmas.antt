@@ -1,5 +1,6 @@
 -- What holds at the start, and is kept by each step.
-use Rattle.std.proofs.Common.{◌≡◌, ◌⊎◌, inl, inr, ℕ, ◌+◌, ◌<◌, ◌==◌, Bool, true, false, cond, IsTrue, List, [], ◌∷◌, ◌++◌, length, refl, sym, ap, ◌∙◌, subst, arith, Some, append-nil, length-append}
+use Rattle.std.proofs.Common.{◌≡◌, ◌⊎◌, inl, inr, ℕ, ◌+◌, ◌<◌, ◌==◌, Bool, true, false, cond, IsTrue, List, [], ◌∷◌}
+use Rattle.std.proofs.Common.{◌++◌, length, refl, sym, ap, ◌∙◌, subst, arith, Some, append-nil, length-append}
 use Rattle.std.specs.Prelude.{Contains, slice_get}
 use Rattle.std.proofs.lemmas.Option.{slice_get_within}
 use Rattle.oyster_account.specs.declared.touch.Touch.{Touch}
@@ -9,7 +10,8 @@ use Rattle.reply_book.specs.declared.entry.Entry.{Entry}
 use Rattle.reply_book.specs.Names.{has_same_name, AreNamedOnce}
 use Rattle.reply_book.specs.Laws.{IsEntryAt}
 use Rattle.reply_book.specs.Legal.{IsLegal, history_of, touches_of, book}
-use Rattle.reply_book.proofs.PlaceLemmas.{slice_get-append_left, slice_get-push_cases, slice_get-behind, slice_get-mapped, slice_get-of}
+use Rattle.reply_book.proofs.PlaceLemmas.{slice_get-append_left, slice_get-push_cases, slice_get-behind}
+use Rattle.reply_book.proofs.PlaceLemmas.{slice_get-mapped, slice_get-of}
 use Rattle.reply_book.proofs.NameLemmas.{equal, same-name-refl}
 use Rattle.reply_book.proofs.LookupLemmas.{new-other}
 use Rattle.reply_book.proofs.LegalLemmas.{touches_in-history_of, legal-add, legal-is_book}
@@ -17,9 +19,11 @@ use Rattle.reply_book.proofs.LawLemmas.{first-exact}
 use Rattle.reply_book.proofs.CallerLemmas.{judged_of, history_of-push, touches_of-push}
 use Rattle.gate_session.specs.declared.answer.Answer.TheVariants as answers
 use Rattle.gate_rounds.specs.Joint.{Joint, of_gate, is_any, IsWaiting}
-use Rattle.gate_rounds.specs.Steps.{Asks, Sends, OthersSend, Enters, Answers, Tells, Hears, Opens, Restarts, Step, is_reply}
+use Rattle.gate_rounds.specs.Steps.{Asks, Sends, OthersSend, Enters, Answers, Tells, Hears, Opens, Restarts, Step}
+use Rattle.gate_rounds.specs.Steps.{is_reply}
 use Rattle.gate_rounds.specs.Agreement.{IsRunOf, IsRun, IsStart, AreAllButLast}
-use Rattle.gate_rounds.proofs.ListLemmas.{placed, contained, contains-left, contains-last, contains-push_cases, contains-none, of_gate-push, of_gate-has, of_gate-of, of_gate-none}
+use Rattle.gate_rounds.proofs.ListLemmas.{placed, contained, contains-left, contains-last, contains-push_cases}
+use Rattle.gate_rounds.proofs.ListLemmas.{contains-none, of_gate-push, of_gate-has, of_gate-of, of_gate-none}
 
 -- ---- what is kept
 

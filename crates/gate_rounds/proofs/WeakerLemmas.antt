@@ -1,6 +1,7 @@
 -- Runs with a step that lacks a condition or a premise, each of which ends where gate and station don't agree. They are
 -- of gate 7 and 10 cards, by any tables of fares.
-use Rattle.std.proofs.Common.{◌≡◌, ◌⊎◌, inl, inr, ℕ, zero, suc, true, false, List, Some, [], ◌∷◌, ◌++◌, length, refl, ap, sym, ◌∙◌, arith}
+use Rattle.std.proofs.Common.{◌≡◌, ◌⊎◌, inl, inr, ℕ, zero, suc, true, false, List, Some, [], ◌∷◌, ◌++◌, length, refl}
+use Rattle.std.proofs.Common.{ap, sym, ◌∙◌, arith}
 use Rattle.std.specs.Prelude.{slice_get}
 use Rattle.oyster_account.specs.declared.touch.Touch.{Touch}
 use Rattle.oyster_account.specs.declared.reply.Judged.{Judged}
@@ -12,7 +13,8 @@ use Rattle.gate_rounds.specs.Agreement.{IsRunOf, IsRun, Agrees}
 use Rattle.gate_rounds.specs.Weaker.{AsksOutOfTurn, AsksByAnyNumber, OpensIdle, HearsAnyNumber, AreWeaker, DoesBreak}
 use Rattle.gate_rounds.proofs.ListLemmas.{contained}
 use Rattle.gate_rounds.proofs.StepLemmas.{run-append}
-use Rattle.gate_rounds.proofs.RunExamples.{issue, issued, first, second, entry, judged, answer, head, differ, on_literals, start, asked, sent, starts}
+use Rattle.gate_rounds.proofs.RunExamples.{issue, issued, first, second, entry, judged, answer, head, differ}
+use Rattle.gate_rounds.proofs.RunExamples.{on_literals, start, asked, sent, starts}
 
 -- each step is also one that lacks its condition or premise
 pub weaker : (gate cards : ℕ) (old new : Joint) → AreWeaker gate cards old new

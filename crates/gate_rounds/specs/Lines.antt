@@ -3,7 +3,7 @@
 use Rattle.std.specs.Prelude.{◌≡◌, ◌⊎◌, ℕ, List, [], ◌++◌, All, flat_map, Contains}
 use Rattle.gate_session.specs.Frames.{RequestFits, request_frame}
 use Rattle.gate_session.specs.Answers.{AnswerFits, answer_frame}
-use Rattle.gate_session.specs.Writing.{IsBeginning, IsCutShort}
+use Rattle.text_io.specs.Writing.{IsBeginning, IsCutShort}
 use Rattle.gate_rounds.specs.Premises.{Line}
 
 -- these are the first of all those, in their order

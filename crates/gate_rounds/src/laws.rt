@@ -7,9 +7,11 @@ ghost use Rattle.gate_session.specs.declared.answer.Answer.{Answer};
 ghost use Rattle.gate_rounds.specs.Joint.{Joint};
 ghost use Rattle.gate_rounds.specs.Agreement.{DoGateAndStationAgree};
 ghost use Rattle.gate_rounds.specs.Lines.{DoLinesBringRequests, DoLinesBringAnswers, AreByLine};
-ghost use Rattle.gate_rounds.specs.Weaker.{AsksOutOfTurn, AsksByAnyNumber, AsksForAnother, OpensIdle};
+ghost use Rattle.gate_rounds.specs.Weaker.{AsksOutOfTurn, AsksByAnyNumber, AsksForAnother};
+ghost use Rattle.gate_rounds.specs.Weaker.{OpensIdle};
 ghost use Rattle.gate_rounds.specs.Weaker.{HearsAnyNumber, HearsAnyGate, HearsUnasked};
-ghost use Rattle.gate_rounds.specs.Weaker.{EntersUnsent, HearsUnwritten, AnybodySends, OpensAnother};
+ghost use Rattle.gate_rounds.specs.Weaker.{EntersUnsent, HearsUnwritten, AnybodySends};
+ghost use Rattle.gate_rounds.specs.Weaker.{OpensAnother};
 ghost use Rattle.gate_rounds.specs.Weaker.{RestartsAnother, RestartsByOthers, EntersUnjudged};
 ghost use Rattle.gate_rounds.specs.Weaker.{AreUnlike, AreWeaker, DoesBreak};
 

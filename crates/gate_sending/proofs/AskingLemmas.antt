@@ -1,5 +1,6 @@
 -- Texts that are cut at their first space.
-use Rattle.std.proofs.Common.{◌≡◌, ℕ, suc, zero, ◌<◌, List, [], ◌∷◌, length, get_or, Option, Some, None, IfSome, false, true, refl, ap, ◌∙◌, arith, slice_index, codes}
+use Rattle.std.proofs.Common.{◌≡◌, ℕ, suc, zero, ◌<◌, List, [], ◌∷◌, length, get_or, Option, Some, None, IfSome, false}
+use Rattle.std.proofs.Common.{true, refl, ap, ◌∙◌, arith, slice_index, codes}
 use Rattle.std.specs.Prelude.{◌==◌, ◌≢◌, option_map}
 use Rattle.std.specs.Option.{MatchOption}
 use Rattle.std.specs.Str.Parse.{IsNumeral}

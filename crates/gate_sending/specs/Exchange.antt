@@ -6,7 +6,7 @@ use Rattle.oyster_account.specs.declared.touch.Touch.{Touch}
 use Rattle.oyster_account.specs.declared.reply.Reply.{Reply}
 use Rattle.gate_session.specs.declared.answer.Answer.TheVariants as answers
 use Rattle.gate_session.specs.Answers.{answer_frame}
-use Rattle.gate_session.specs.Writing.{IsCutShort}
+use Rattle.text_io.specs.Writing.{IsCutShort}
 use Rattle.gate_client.specs.Heard.{frame_of}
 use Rattle.gate_client.specs.Texts.{printed_hear_fault}
 use Rattle.gate_sending.specs.declared.attempt.TryFault.{TryFault}

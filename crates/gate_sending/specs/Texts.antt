@@ -8,7 +8,8 @@ use Rattle.gate_client.specs.declared.fault.HearFault.TheVariants.{Refused}
 use Rattle.gate_sending.specs.declared.attempt.TryFault.{TryFault}
 use Rattle.gate_sending.specs.declared.attempt.TryFault.TheVariants.{Unheard}
 use Rattle.gate_sending.specs.declared.settling.SettleFault.{SettleFault}
-use Rattle.gate_sending.specs.declared.settling.SettleFault.TheVariants.{Conflict, Full, UnknownTable, Tries}
+use Rattle.gate_sending.specs.declared.settling.SettleFault.TheVariants.{Conflict, Full}
+use Rattle.gate_sending.specs.declared.settling.SettleFault.TheVariants.{UnknownTable, Tries}
 
 -- what a fault prints behind `fault `
 abbrev pub printed_settle_fault : SettleFault → List ℕ

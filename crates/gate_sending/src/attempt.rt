@@ -1,7 +1,7 @@
 //! One try of a touch: its frame is written to a line, and one answer is read from it.
 ghost use Rattle.std.specs.Prelude.{◌≡◌, Some, IsSome, IfOk, OnOk, OnErr, Err};
 ghost use Rattle.oyster_account.specs.declared.touch.Touch.{Touch};
-ghost use Rattle.gate_session.specs.Writing.{Wrote};
+ghost use Rattle.text_io.specs.Writing.{Wrote};
 ghost use Rattle.gate_client.specs.Client.{waits_of, answered};
 ghost use Rattle.gate_sending.specs.declared.attempt.TryFault.TheVariants.{Cut};
 ghost use Rattle.gate_sending.specs.Exchange.{HasSent, HasSettled, printed_try_fault};

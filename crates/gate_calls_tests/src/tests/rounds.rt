@@ -1,9 +1,6 @@
 //! Touches that are asked, lost, sent again and answered.
 use super::*;
 
-/// No answer came, or a part of one.
-const NONE: SettleFault = SettleFault::Unheard(HearFault::NoAnswer);
-
 #[test]
 fn each_touch_gets_its_reply(rt: HostRuntime) {
     let mut client = new_client(&rt, rt.alloc());
@@ -20,8 +17,8 @@ fn each_touch_gets_its_reply(rt: HostRuntime) {
     drop(station);
 }
 
-/// That a line which loses this gives no reply, that the touch waits on, and that sent again it gets
-/// its reply. By then the station had the touch or not.
+/// That a line which loses this gives no reply, that the touch waits on, and that sent again it
+/// gets its reply. By then the station had the touch or not.
 fn assert_lost<R: Abort + Wait>(rt: &R, alloc: Global, carried: Carried, had: usize) {
     let row = &ROWS[0];
     let mut client = new_client(rt, alloc);

@@ -218,8 +218,8 @@ fn waiting(rt: &impl Abort, alloc: Global) -> Client<MemoryDisk> {
 }
 
 /// What comes of the settling of the touch that waits, by lines with these answers, behind one with
-/// the first answer, where there is one: what was heard, how many lines were asked for, and how many
-/// faults were told.
+/// the first answer, where there is one: what was heard, how many lines were asked for, and how
+/// many faults were told.
 fn settled<'a>(
     rt: &impl Abort,
     alloc: Global,

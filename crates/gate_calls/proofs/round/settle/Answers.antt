@@ -1,5 +1,5 @@
 use Rattle.std.proofs.Common.{refl, subst}
-use Rattle.gate_session.specs.Writing.{IsBeginning}
+use Rattle.text_io.specs.Writing.{IsBeginning}
 use Rattle.gate_calls.proofs.SettledLemmas.{settled, round-heard, round-unheard, round-none}
 use Rattle.gate_calls.proofs.round.settle.Goals as goal
 
