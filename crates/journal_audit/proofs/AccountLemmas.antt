@@ -1,5 +1,6 @@
 -- A row is balanced, and says what the account of its card does.
-use Rattle.std.proofs.Common.{◌≡◌, ℕ, zero, suc, ℤ, pos, ◌+◌, ◌≤◌, ◌-ℤ◌, Bool, true, false, cond, nat_lt, nat_le, List, [], ◌∷◌, ◌++◌, length, map, reverse, refl, sym, ap, subst, ◌∙◌, arith}
+use Rattle.std.proofs.Common.{◌≡◌, ℕ, zero, suc, ℤ, pos, ◌+◌, ◌≤◌, ◌-ℤ◌, Bool, true, false, cond, nat_lt, nat_le, List}
+use Rattle.std.proofs.Common.{[], ◌∷◌, ◌++◌, length, map, reverse, refl, sym, ap, subst, ◌∙◌, arith}
 use Rattle.std.specs.Prelude.{sum_by, filter, All}
 use Rattle.std.proofs.lemmas.Bool.Decides.{nat_tests}
 use Rattle.std.proofs.lemmas.Int.{ints}
@@ -52,7 +53,8 @@ sum-mapped g f (x ∷ xs) =
     omega (arith, sum_by-cons f (g x) (map g xs), sum_by-cons (λ x. f (g x)) x xs, sum-mapped g f xs)
 
 -- the touches of a card paid in what its accepted acts did
-paid-in : (card : ℕ) (history : List Judged) → (sums_of card history).paid_in ≡ sum_by pence_paid (accepted card history)
+paid-in : (card : ℕ) (history : List Judged)
+    → (sums_of card history).paid_in ≡ sum_by pence_paid (accepted card history)
 unfolding sums_of
 paid-in card history =
     sym (sum-mapped (λ (j : Judged). j.touch.act) pence_paid (filter (counts_for card) (reverse history))

@@ -9,7 +9,8 @@ use Rattle.fare_table.specs.Fares.{digest_of}
 use Rattle.journal_audit.specs.declared.fault.AuditFault.{AuditFault}
 use Rattle.journal_audit.specs.declared.fault.AuditFault.TheVariants.{Memory, Write, Journal, Header as OtherHeader}
 use Rattle.journal_audit.specs.declared.fault.AuditFault.TheVariants.{Seal, Gate, Card, Place, Balance}
-use Rattle.journal_audit.specs.Balances.{HasRefused, HasWritten, HasRows, AreBalances, HasPlace, touches_before, HasRefusedTouches, AreTouchesOf, IsTooFar}
+use Rattle.journal_audit.specs.Balances.{HasRefused, HasWritten, HasRows, AreBalances, HasPlace, touches_before}
+use Rattle.journal_audit.specs.Balances.{HasRefusedTouches, AreTouchesOf, IsTooFar}
 use Rattle.journal_audit.specs.declared.balances.row.Row.{Row}
 use Rattle.journal_audit.specs.declared.balances.totals.Totals.{Totals}
 use Rattle.journal_audit.specs.Totals.{totals_of, AreTotalsBalanced}
@@ -45,7 +46,16 @@ refused-place tables at bytes format h touches (Seal fault) journal far = absurd
 refused-place tables at bytes format h touches (Gate fault) journal far = absurd far
 refused-place tables at bytes format h touches (Card card cards) journal far = absurd far
 refused-place tables at bytes format h touches (Place count) journal far =
-    record { format = format; h = h; touches = touches; place = far.0; journal = journal; named = far.1; fewer = far.2; all = far.3 }
+    record {
+      format = format;
+      h = h;
+      touches = touches;
+      place = far.0;
+      journal = journal;
+      named = far.1;
+      fewer = far.2;
+      all = far.3;
+    }
 refused-place tables at bytes format h touches (Balance card) journal far = absurd far
 
 -- and that of entering the touches
@@ -85,7 +95,8 @@ pub rows-told : (tables own : Tables) (cards : ℕ) (touches : List Touch) (hist
 rows-told tables own cards touches history rows same are once known is balanced =
     record {
       entered = (once, known);
-      are = is ∙ ap (λ (t : Tables). rows_of t cards history) same ∙ ap (λ (h : List Judged). rows_of tables cards h) are;
+      are =
+          is ∙ ap (λ (t : Tables). rows_of t cards history) same ∙ ap (λ (h : List Judged). rows_of tables cards h) are;
       balanced = balanced;
     }
 
@@ -96,7 +107,8 @@ pub balances-told : (tables : Tables) (at : Option ℕ) (bytes : List ℕ) (form
     → IsJournal (Some tables) bytes format h all → seen ≡ all → HasPlace at seen → touches ≡ touches_before at seen
     → HasRows tables h.cards touches rows → shown ≡ rows → summed ≡ rows → text ≡ text_of_rows shown
     → totals ≡ totals_of summed → AreTotalsBalanced totals → AreBalances tables at bytes text totals
-balances-told tables at bytes format h all seen touches rows shown summed text totals journal same there before has shows sums lines are balanced =
+balances-told tables at bytes format h all seen touches rows shown summed text totals journal same there before has
+    shows sums lines are balanced =
     record {
       h = h;
       touches = touches;
@@ -109,7 +121,8 @@ balances-told tables at bytes format h all seen touches rows shown summed text t
       };
       entered = has.entered;
       rows = subst (All IsBalanced) has.are has.balanced;
-      accounts = rows-account tables h.cards (book tables h.cards touches) (subst (All IsBalanced) has.are has.balanced);
+      accounts =
+          rows-account tables h.cards (book tables h.cards touches) (subst (All IsBalanced) has.are has.balanced);
       lines = lines ∙ ap text_of_rows (shows ∙ has.are);
       sums = are ∙ ap totals_of (sums ∙ has.are);
       balanced = balanced;

@@ -1,5 +1,6 @@
 -- Counting from the first date on gives each day the date that has its number.
-use Rattle.std.proofs.Common.{◌≡◌, ℕ, zero, suc, ◌+◌, ◌≤◌, ◌==◌, Bool, true, false, ℤ, pos, negsuc, ◌+ℤ◌, ◌<ℤ◌, ◌≤ℤ◌, unsigned_abs, refl, sym, ap, ◌∙◌, arith, rules}
+use Rattle.std.proofs.Common.{◌≡◌, ℕ, zero, suc, ◌+◌, ◌≤◌, ◌==◌, Bool, true, false, ℤ, pos, negsuc, ◌+ℤ◌, ◌<ℤ◌, ◌≤ℤ◌}
+use Rattle.std.proofs.Common.{unsigned_abs, refl, sym, ap, ◌∙◌, arith, rules}
 use Rattle.std.proofs.lemmas.Bool.{eqb-true, eqb-false}
 use Rattle.std.proofs.lemmas.Int.{by_lt_z}
 use Rattle.jiff_core.specs.declared.civil.date.Date.{Date}
@@ -7,9 +8,12 @@ use Rattle.jiff_core.specs.Calendar.{days_from_civil, days_in_month, IsCivilDate
 use Rattle.jiff_core.specs.Date.{epoch_day}
 use Rattle.jiff_core.proofs.SignedLemmas.{signed_arith}
 use Rattle.jiff_core.proofs.CalendarLemmas.{days_in_month_bounds}
-use Rattle.jiff_core.proofs.DateLemmas.{days_from_civil-min, days_from_civil-max, days_from_civil-day, days_from_civil-next_month, days_from_civil-next_year, epoch_day_injective, epoch_day_range}
+use Rattle.jiff_core.proofs.DateLemmas.{days_from_civil-min, days_from_civil-max, days_from_civil-day}
+use Rattle.jiff_core.proofs.DateLemmas.{days_from_civil-next_month, days_from_civil-next_year, epoch_day_injective}
+use Rattle.jiff_core.proofs.DateLemmas.{epoch_day_range}
 use Rattle.jiff_fmt.specs.Text.{date_text}
-use Rattle.journal_audit.specs.Calendar.{Civil, first_of_year, first_of_next, day_after, days_after_first, date_of, has_date, civil_text, day_text}
+use Rattle.journal_audit.specs.Calendar.{Civil, first_of_year, first_of_next, day_after, days_after_first, date_of}
+use Rattle.journal_audit.specs.Calendar.{has_date, civil_text, day_text}
 
 -- the date is one of the calendar, and so many days after the first one
 record IsDayOf (n : ℕ) (date : Civil) : Type 0 where
@@ -17,21 +21,25 @@ record IsDayOf (n : ℕ) (date : Civil) : Type 0 where
   count : days_from_civil date.year date.month date.day +ℤ pos 4371587 ≡ pos n
 
 -- a last day of December that isn't the last date of all is in a year before the last
-before_last : (n : ℕ) (y : ℤ) → IsYear y → days_from_civil y 12 31 +ℤ pos 4371587 ≡ pos n → suc n ≤ 7304483 → y <ℤ pos 9999
+before_last : (n : ℕ) (y : ℤ) → IsYear y → days_from_civil y 12 31 +ℤ pos 4371587 ≡ pos n → suc n ≤ 7304483
+    → y <ℤ pos 9999
 before_last n y year count bound =
     by_lt_z y (pos 9999) (λ lt. lt) (λ ge.
     let last : y ≡ pos 9999 = omega (arith, signed_arith, year) in
-    let of_last : days_from_civil y 12 31 ≡ pos 2932896 = ap (λ (z : ℤ). days_from_civil z 12 31) last ∙ days_from_civil-max in
+    let of_last : days_from_civil y 12 31 ≡ pos 2932896 =
+    ap (λ (z : ℤ). days_from_civil z 12 31) last ∙ days_from_civil-max in
     absurd (omega (arith, signed_arith, of_last, count, bound)))
 
 -- the first of January comes behind the last of December
-new_year : (n : ℕ) (y : ℤ) → IsYear y → days_from_civil y 12 31 +ℤ pos 4371587 ≡ pos n → suc n ≤ 7304483 → IsDayOf (suc n) (first_of_year (y +ℤ pos 1))
+new_year : (n : ℕ) (y : ℤ) → IsYear y → days_from_civil y 12 31 +ℤ pos 4371587 ≡ pos n → suc n ≤ 7304483
+    → IsDayOf (suc n) (first_of_year (y +ℤ pos 1))
 new_year n y year count bound =
     let below = before_last n y year count bound in
     let next = days_from_civil-next_year y (y +ℤ pos 1) (omega (arith, signed_arith, year)) refl in
     let long = days_in_month_bounds (y +ℤ pos 1) 1 in
     record {
-      civil = (omega (arith, signed_arith, year, below), (omega arith, omega arith), (omega arith, omega (arith, long)));
+      civil =
+          (omega (arith, signed_arith, year, below), (omega arith, omega arith), (omega arith, omega (arith, long)));
       count = omega (arith, signed_arith, next, count);
     }
 
@@ -95,10 +103,12 @@ dated n date is = record {
 same_parts : (n : ℕ) (found : Civil) → IsDayOf n found → (date : Date) → epoch_day date +ℤ pos 4371587 ≡ pos n
     → (found.year ≡ date.year) × (found.month ≡ date.month) × (found.day ≡ date.day)
 unfolding dated
-same_parts n found is date number = epoch_day_injective (dated n found is) date (omega (arith, signed_arith, is.count, number))
+same_parts n found is date number =
+    epoch_day_injective (dated n found is) date (omega (arith, signed_arith, is.count, number))
 
 -- dates with the same parts are printed alike
-same_text : (found : Civil) (date : Date) → (found.year ≡ date.year) × (found.month ≡ date.month) × (found.day ≡ date.day)
+same_text : (found : Civil) (date : Date)
+    → (found.year ≡ date.year) × (found.month ≡ date.month) × (found.day ≡ date.day)
     → civil_text found ≡ date_text date
 same_text found date same = rw (same.0, same.1, same.2) refl
 
@@ -117,6 +127,8 @@ unfolding day_text
 day_text-date date =
     let range = epoch_day_range date in
     let n = unsigned_abs (epoch_day date +ℤ pos 4371587) in
-    let number : epoch_day date +ℤ pos 4371587 ≡ pos n = amount_of (epoch_day date +ℤ pos 4371587) (omega (arith, signed_arith, range)) in
+    let number : epoch_day date +ℤ pos 4371587 ≡ pos n =
+    amount_of (epoch_day date +ℤ pos 4371587) (omega (arith, signed_arith, range)) in
     let is = counted n (omega (arith, signed_arith, range, number)) in
-    rw (has_own date) (same_text (date_of (epoch_day date)) date (same_parts n (date_of (epoch_day date)) is date number))
+    rw (has_own date) (same_text (date_of (epoch_day date)) date
+    (same_parts n (date_of (epoch_day date)) is date number))

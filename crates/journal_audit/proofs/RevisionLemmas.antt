@@ -1,5 +1,6 @@
 -- The lines of a journal's revisions, touch by touch.
-use Rattle.std.proofs.Common.{◌≡◌, ℕ, zero, suc, ◌+◌, ◌≤◌, ◌<◌, List, [], ◌∷◌, ◌++◌, length, drop, get_or, Option, ap, ◌∙◌, sym, refl, append_assoc, append-nil, arith}
+use Rattle.std.proofs.Common.{◌≡◌, ℕ, zero, suc, ◌+◌, ◌≤◌, ◌<◌, List, [], ◌∷◌, ◌++◌, length, drop, get_or, Option, ap}
+use Rattle.std.proofs.Common.{◌∙◌, sym, refl, append_assoc, append-nil, arith}
 use Rattle.std.proofs.Math.Seq.{drop-cons}
 use Rattle.oyster_account.specs.declared.reply.Judged.{Judged}
 use Rattle.oyster_account.specs.declared.touch.Touch.{Touch}

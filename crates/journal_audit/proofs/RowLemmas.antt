@@ -1,5 +1,6 @@
 -- The sums over rows.
-use Rattle.std.proofs.Common.{◌≡◌, ℕ, zero, suc, ◌+◌, ◌<◌, ◌≤◌, true, false, cond, List, [], ◌∷◌, ◌++◌, length, get_or, take, refl, sym, ap, subst, ◌∙◌, arith, take_all}
+use Rattle.std.proofs.Common.{◌≡◌, ℕ, zero, suc, ◌+◌, ◌<◌, ◌≤◌, true, false, cond, List, [], ◌∷◌, ◌++◌, length, get_or}
+use Rattle.std.proofs.Common.{take, refl, sym, ap, subst, ◌∙◌, arith, take_all}
 use Rattle.std.specs.Prelude.{sum_by, All}
 use Rattle.std.proofs.lemmas.Int.{ints}
 use Rattle.std.proofs.lemmas.List.Sums.{sum_by-cons, sum_by_more, sum_by_more_le}
@@ -31,7 +32,8 @@ three-sums f g h (x ∷ xs) =
 
 -- what the rows' cards moved together
 pub moved-in : (rows : List Row) → pence_moved (sums_in rows) ≡ sum_by (λ row. pence_moved row.sums) rows
-moved-in rows = three-sums (λ (row : Row). row.sums.paid_in) (λ (row : Row). row.sums.taken) (λ (row : Row). row.sums.returned) rows
+moved-in rows =
+    three-sums (λ (row : Row). row.sums.paid_in) (λ (row : Row). row.sums.taken) (λ (row : Row). row.sums.returned) rows
 
 -- one row more
 pub sums_in-more : (rows : List Row) (i : ℕ) (d : Row) → i < length rows
@@ -46,7 +48,12 @@ sums_in-more rows i d within =
 pub moved-room : (rows : List Row) (i : ℕ) (d : Row) → i < length rows → AreMeasuredRows rows
     → pence_moved (sums_in (take i rows)) + pence_moved (get_or rows i d).sums ≤ most_moved HISTORY_LIMIT
 moved-room rows i d within measured =
-    omega (arith, moved-in (take i rows), sum_by_more_le (λ (row : Row). pence_moved row.sums) rows i d within, measured)
+    omega (
+      arith,
+      moved-in (take i rows),
+      sum_by_more_le (λ (row : Row). pence_moved row.sums) rows i d within,
+      measured,
+    )
 
 -- a signed sum of charges is the sum of what was taken, less the sum of what was given back
 pub charges-in : (rows : List Row) → sum_signed (λ row. charge_in row.sums) rows ≡ charge_in (sums_in rows)
@@ -85,7 +92,12 @@ moved-all rows i whole measured =
 
 -- the totals of rows are those of their sums, where each row is balanced
 pub totals-by : (rows : List Row) (sums : Sums) → sums ≡ sums_in rows → All IsBalanced rows
-    → totals_of rows ≡ record { cards = length rows; paid_in = sums.paid_in; charged = charge_in sums; balance = left_in sums }
+    → totals_of rows ≡ record {
+      cards = length rows;
+      paid_in = sums.paid_in;
+      charged = charge_in sums;
+      balance = left_in sums;
+    }
 unfolding totals_of
 totals-by rows sums is all =
     let charged = charges-in rows in
@@ -119,7 +131,8 @@ first_rows-vacant tables cards history count row is vacant =
     ∙ append-nil (first_rows tables cards history count)
 
 -- one balanced row more
-pub balanced-more : (rows : List Row) (row : Row) → All IsBalanced rows → IsBalanced row → All IsBalanced (rows ++ row ∷ [])
+pub balanced-more : (rows : List Row) (row : Row) → All IsBalanced rows → IsBalanced row
+    → All IsBalanced (rows ++ row ∷ [])
 balanced-more rows row all is = All-append IsBalanced rows (row ∷ []) all (all-one row is)
   where
     all-one : (row : Row) → IsBalanced row → All IsBalanced (row ∷ [])

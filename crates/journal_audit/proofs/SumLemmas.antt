@@ -1,5 +1,7 @@
 -- The sums of each card go on being those over its touches.
-use Rattle.std.proofs.Common.{◌≡◌, ℕ, zero, suc, ◌+◌, ◌-◌, ◌<◌, ◌≤◌, true, false, cond, ◌&&◌, ◌==◌, inl, inr, List, [], ◌∷◌, ◌++◌, length, get_or, take, replicate, slice_set, refl, sym, ap, subst, ◌∙◌, arith, Some, None}
+use Rattle.std.proofs.Common.{◌≡◌, ℕ, zero, suc, ◌+◌, ◌-◌, ◌<◌, ◌≤◌, true, false, cond, ◌&&◌, ◌==◌, inl, inr, List, []}
+use Rattle.std.proofs.Common.{◌∷◌, ◌++◌, length, get_or, take, replicate, slice_set, refl, sym, ap, subst, ◌∙◌, arith}
+use Rattle.std.proofs.Common.{Some, None}
 use Rattle.std.proofs.lemmas.Bool.{cases_eq}
 use Rattle.std.proofs.lemmas.Bool.Decides.{nat_tests}
 use Rattle.std.proofs.lemmas.Option.{slice_get_within, slice_get-get_or, get_or_from_slice_get, slice_get_read}
@@ -14,7 +16,8 @@ use Rattle.reply_book.proofs.CardLemmas.{not-of}
 use Rattle.reply_book.specs.declared.entry.Entry.{Entry}
 use Rattle.reply_book.specs.Legal.{history_of}
 use Rattle.journal_audit.specs.declared.balances.sums.Sums.{Sums}
-use Rattle.journal_audit.specs.Sums.{pence_taken, pence_returned, moved, sums_over, sums_of, plus, pence_moved, AreSumsOf}
+use Rattle.journal_audit.specs.Sums.{pence_taken, pence_returned, moved, sums_over, sums_of, plus, pence_moved}
+use Rattle.journal_audit.specs.Sums.{AreSumsOf}
 
 -- one touch more at the end of a list
 sums_over-push : (judged : List Judged) (j : Judged) → sums_over (judged ++ j ∷ []) ≡ plus (sums_over judged) (moved j)
@@ -82,7 +85,8 @@ put_other all place other new sums ne at =
 -- where it counts for a card, that card's sums have it
 pub AreSumsOf-own : (history : List Judged) (all : List Sums) (j : Judged) (d : Sums) → counts_for j.touch.card j ≡ true
     → (j.touch.card ≡ 0 → ⊥) → j.touch.card ≤ length all → AreSumsOf history all
-    → AreSumsOf (history ++ j ∷ []) (slice_set all (j.touch.card - 1) (plus (get_or all (j.touch.card - 1) d) (moved j)))
+    → AreSumsOf (history ++ j ∷ [])
+    (slice_set all (j.touch.card - 1) (plus (get_or all (j.touch.card - 1) d) (moved j)))
 AreSumsOf-own history all j d own some few are place sums at =
     let seat = j.touch.card - 1 in
     let new = plus (get_or all seat d) (moved j) in
@@ -112,7 +116,8 @@ AreSumsOf-nothing (suc count) zero sums at = cc
 AreSumsOf-nothing (suc count) (suc place) sums at = AreSumsOf-nothing count place sums at
 
 -- and so have all together
-pub moved-nothing : (count : ℕ) → sum_by pence_moved (replicate count (record { paid_in = 0; taken = 0; returned = 0 })) ≡ 0
+pub moved-nothing : (count : ℕ)
+    → sum_by pence_moved (replicate count (record { paid_in = 0; taken = 0; returned = 0 })) ≡ 0
 moved-nothing zero = refl
 moved-nothing (suc count) =
     omega (
@@ -140,6 +145,7 @@ all-before (x ∷ xs) zero is = absurd cc
 all-before (x ∷ xs) (suc place) is = ap (λ l. x ∷ l) (all-before xs place is)
 
 -- as many sums as cards
-pub length-nothing : (count : ℕ) → length (replicate count (let none : Sums = record { paid_in = 0; taken = 0; returned = 0 } in none)) ≡ count
+pub length-nothing : (count : ℕ)
+    → length (replicate count (let none : Sums = record { paid_in = 0; taken = 0; returned = 0 } in none)) ≡ count
 length-nothing zero = refl
 length-nothing (suc count) = omega (arith, length-nothing count)

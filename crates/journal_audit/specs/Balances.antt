@@ -10,12 +10,13 @@ use Rattle.tap_journal.specs.declared.fault.JournalFault.TheVariants as journal
 use Rattle.tap_journal.specs.declared.layout.Format.{Format}
 use Rattle.tap_journal.specs.Layout.{Header}
 use Rattle.tap_journal.specs.Alone.{HasCauseAlone}
-use Rattle.gate_session.specs.Writing.{IsBeginning}
+use Rattle.text_io.specs.Writing.{IsBeginning}
 use Rattle.journal_audit.specs.Audit.{IsJournal}
 use Rattle.journal_audit.specs.Touches.{digest_named, AreEntered, HasTouchCause}
 use Rattle.journal_audit.specs.declared.fault.AuditFault.{AuditFault}
 use Rattle.journal_audit.specs.declared.fault.AuditFault.TheVariants.{Memory, Write, Journal, Seal}
-use Rattle.journal_audit.specs.declared.fault.AuditFault.TheVariants.{Header as OtherHeader, Gate, Card}
+use Rattle.journal_audit.specs.declared.fault.AuditFault.TheVariants.{Header as OtherHeader, Gate}
+use Rattle.journal_audit.specs.declared.fault.AuditFault.TheVariants.{Card}
 use Rattle.journal_audit.specs.declared.fault.AuditFault.TheVariants.{Place, Balance}
 use Rattle.journal_audit.specs.declared.balances.row.Row.{Row}
 use Rattle.journal_audit.specs.declared.balances.totals.Totals.{Totals}

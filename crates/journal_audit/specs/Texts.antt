@@ -2,7 +2,8 @@
 use Rattle.std.specs.Prelude.{ℕ, List, ◌++◌, codes}
 use Rattle.std.specs.Fmt.{decimal}
 use Rattle.journal_audit.specs.declared.fault.GateFault.{GateFault}
-use Rattle.journal_audit.specs.declared.fault.GateFault.TheVariants.{NoFile, AnotherFile, Damaged, Foreign}
+use Rattle.journal_audit.specs.declared.fault.GateFault.TheVariants.{NoFile, AnotherFile, Damaged}
+use Rattle.journal_audit.specs.declared.fault.GateFault.TheVariants.{Foreign}
 use Rattle.journal_audit.specs.declared.fault.HeaderFault.{HeaderFault}
 use Rattle.journal_audit.specs.declared.fault.HeaderFault.TheVariants.{Capacity, Cards}
 use Rattle.journal_audit.specs.declared.fault.SealFault.{SealFault}
@@ -17,8 +18,8 @@ abbrev pub printed_header_fault : HeaderFault → List ℕ
 printed_header_fault (Capacity says expected) = codes "1 Capacity " ++ two_numbers says expected
 printed_header_fault (Cards says expected) = codes "2 Cards " ++ two_numbers says expected
 
--- of a seal: its number and its name, and of a shorter journal how many touches it has, and how many
--- the seal is of
+-- of a seal: its number and its name, and of a shorter journal how many touches it has, and how
+-- many the seal is of
 abbrev pub printed_seal_fault : SealFault → List ℕ
 printed_seal_fault (Shorter touches sealed) = codes "1 Shorter " ++ two_numbers touches sealed
 printed_seal_fault Changed = codes "2 Changed"

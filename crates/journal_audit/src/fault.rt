@@ -5,10 +5,10 @@ ghost use Rattle.journal_audit.specs.declared.fault.AuditFault.TheVariants as ca
 ghost use Rattle.journal_audit.specs.Texts.{printed_header_fault, printed_seal_fault};
 ghost use Rattle.journal_audit.specs.Texts.{printed_gate_fault};
 
-use gate_session::WriteFault;
 use std::alloc::{AllocError, AllocFailed};
 use std::fmt;
 use tap_journal::JournalFault;
+use text_io::WriteFault;
 use thiserror::Error;
 
 /// Why a header doesn't say what is expected of it, in the order in which the causes are looked

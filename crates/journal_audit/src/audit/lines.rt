@@ -92,7 +92,8 @@ fn behind_line(alloc: Global, behind: u32) -> Result<String, AllocError>
     }
 }
 
-/// Adds the lines of the seals: the one that the journal was held against, and the one that was made.
+/// Adds the lines of the seals: the one that the journal was held against, and the one that was
+/// made.
 fn append_seals(text: &mut Vec<u8>, alloc: Global, told: &Seals) -> Result<(), AllocError>
     ensures { OnOk result (text.new.items ≡ text.old.items ++ seals_text told.now) }
 {

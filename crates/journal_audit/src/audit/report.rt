@@ -17,7 +17,8 @@ use std::alloc::Global;
 use tap_journal::read_alone;
 
 /// The lines of the sound journal that some bytes are, held against tables where they are named,
-/// with the header that is expected, and with the seals that are asked for; and what is found of it.
+/// with the header that is expected, and with the seals that are asked for; and what is found of
+/// it.
 pub(crate) fn report(
     alloc: Global,
     schedule: Option<Schedule>,

@@ -1,6 +1,6 @@
 //! Fields of a line, added to a text.
 
-ghost use Rattle.std.specs.Prelude.{◌≡◌, ◌≤◌, ◌++◌, length, OnOk};
+ghost use Rattle.std.specs.Prelude.{◌≡◌, ◌≤◌, ◌++◌, ◌∷◌, [], length, OnOk};
 ghost use Rattle.std.specs.Fmt.{decimal, signed_decimal};
 ghost use Rattle.journal_audit.specs.declared.history.field.TheConstants.{HEX_LIMIT};
 ghost use Rattle.hex.specs.Hex.{encode_lower};
@@ -24,6 +24,14 @@ pub(crate) fn append_signed(text: &mut Vec<u8>, number: i64) -> Result<(), Alloc
 {
     let mut digits = itoa::Buffer::new();
     text.extend_from_slice(digits.format(number).as_bytes())
+}
+
+/// Adds a comma, which ends a field.
+pub(crate) fn append_comma(text: &mut Vec<u8>) -> Result<(), AllocError>
+    ensures { OnOk result (text.new.items ≡ text.old.items ++ 44 ∷ []) }
+{
+    text.push(b',')?;
+    Ok(())
 }
 
 /// Adds bytes in lower-case hexadecimal digits.

@@ -1,5 +1,5 @@
-//! What no clause says of balances: worked journals with their rows, and what stands where a write or an
-//! allocation fails. The amounts are those of docs/FARES.md, "Worked examples".
+//! What no clause says of balances: worked journals with their rows, and what stands where a write
+//! or an allocation fails. The amounts are those of docs/FARES.md, "Worked examples".
 
 ghost use Rattle.std.specs.Prelude.{◌≡◌, [], IfSome};
 ghost use Rattle.fare_schedule.specs.Schedule.{revisions_of};
@@ -19,7 +19,8 @@ use tap_journal::JournalFault;
 /// The heading of the rows.
 const HEADING: &str = "card,state,balance,paid_in,charged\r\n";
 
-/// The beginning of a journal of the second format with capacity 20 for 10 cards, of the example table.
+/// The beginning of a journal of the second format with capacity 20 for 10 cards, of the example
+/// table.
 const HEADER: [u8; 64] = *b"\xa5OYSTERJ2\x00\x00\x00\x14\x00\x00\x00\x0a\
     \x17\x08\xbe\xf1\xd8\x12\x4f\x49\x75\x3d\x74\xc2\x9f\xa7\x19\x2b\
     \x3d\xa7\x03\xa4\x24\x81\xf5\x95\x04\xb7\x6a\x41\xec\x00\x24\x28\

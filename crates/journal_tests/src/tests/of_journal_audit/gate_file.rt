@@ -1,5 +1,5 @@
-//! What no clause says of audits of gates' files: worked files with their lines and seals, and what is
-//! told of each other one. The digests are those of Python's hashlib.
+//! What no clause says of audits of gates' files: worked files with their lines and seals, and what
+//! is told of each other one. The digests are those of Python's hashlib.
 
 use journal_audit::{
     Asked, AuditFault, Finding, GateFault, HeaderFault, Seal, SealFault, Sealed, audit_gate_file,
@@ -9,8 +9,8 @@ use std::fmt::Debug;
 use std::process::Abort;
 use std::test::Fail;
 
-/// The file of gate 7 with room for 5 touches: the header, the issue of card 1 and its top-up by 2000
-/// pence, and the closed mark of the third slot (docs/JOURNAL.md, "A gate's file").
+/// The file of gate 7 with room for 5 touches: the header, the issue of card 1 and its top-up by
+/// 2000 pence, and the closed mark of the third slot (docs/JOURNAL.md, "A gate's file").
 const FILE: [u8; 193] = *b"\xa5OYSTERJ2\x00\x00\x00\x05\x00\x00\x00\x01\
     touches of one gate, by number\x00\x07\
     \x00\x00\x00\x00\x00\x00\x00\x00\x00\x00\x00\x00\x00\x00\x00\

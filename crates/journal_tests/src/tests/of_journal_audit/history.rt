@@ -1,6 +1,6 @@
-//! What no clause says of histories: worked journals with their rows and frames, and what stands where
-//! a write or an allocation fails. The rows are those of docs/FARES.md, "Worked examples", and
-//! "Verdicts".
+//! What no clause says of histories: worked journals with their rows and frames, and what stands
+//! where a write or an allocation fails. The rows are those of docs/FARES.md, "Worked examples",
+//! and "Verdicts".
 
 ghost use Rattle.std.specs.Prelude.{◌≡◌, [], IfSome};
 ghost use Rattle.fare_schedule.specs.Schedule.{revisions_of};
@@ -23,8 +23,8 @@ const HEADER: &str = "a54f59535445524a32000000640000000a\
     1708bef1d8124f49753d74c29fa7192b3da703a42481f59504b76a41ec002428\
     000000000000000000000000000000";
 
-/// The frames of an issue at 07:50 on Monday 2025-01-06, a top-up of 2000, in at 2 at 08:00, and out at
-/// 1 at 08:25.
+/// The frames of an issue at 07:50 on Monday 2025-01-06, a top-up of 2000, in at 2 at 08:00, and
+/// out at 1 at 08:25.
 const FRAMES: [&str; 4] = [
     "000f0400070000000100000001677b8b28",
     "00130300070000000200000001000007d0677b8c54",

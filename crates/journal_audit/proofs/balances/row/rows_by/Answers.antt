@@ -8,7 +8,8 @@ use Rattle.journal_audit.specs.Sums.{pence_moved}
 use Rattle.journal_audit.specs.BalancesRows.{is_issued, row_of}
 use Rattle.journal_audit.proofs.AccountLemmas.{next-balanced}
 use Rattle.journal_audit.proofs.RowLemmas.{first_rows-issued, first_rows-vacant, balanced-more}
-use Rattle.journal_audit.proofs.balances.row.rows_by.Goals.{then-is_issued+else-not-is_balanced+in_ok-push, else-is_issued}
+use Rattle.journal_audit.proofs.balances.row.rows_by.Goals.{then-is_issued+else-not-is_balanced+in_ok-push}
+use Rattle.journal_audit.proofs.balances.row.rows_by.Goals.{else-is_issued}
 use Rattle.journal_audit.proofs.balances.row.rows_by.Goals as goal
 
 -- a card that was issued has a row more, which is balanced, and a vacant one has none
@@ -28,7 +29,9 @@ loop-place-preserved c =
             rows = ap (λ l. l ++ row ∷ []) c.loop-place.invariant.rows
                 ∙ sym (first_rows-issued tables c.args.cards history c.loop-place.place row is
                 (sym c.is_issued.ensures ∙ w.if-is_issued.true));
-            balanced = balanced-more rows row c.loop-place.invariant.balanced (w.is_balanced.ensures.0 w.if-not-is_balanced.false);
+            balanced =
+                balanced-more rows row c.loop-place.invariant.balanced
+                (w.is_balanced.ensures.0 w.if-not-is_balanced.false);
             measured = omega (
               arith,
               sum_by_push (λ (r : Row). pence_moved r.sums) rows row,

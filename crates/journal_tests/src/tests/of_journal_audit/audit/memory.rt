@@ -32,8 +32,8 @@ impl Write for Room {
     }
 }
 
-/// How the audit of the journal of the example table ends, with the tables that are named. Nothing is
-/// written where it was refused memory.
+/// How the audit of the journal of the example table ends, with the tables that are named. Nothing
+/// is written where it was refused memory.
 fn attempt(
     rt: &impl Abort,
     alloc: Global,

@@ -2,8 +2,8 @@
 
 use super::*;
 
-/// The journal with a third touch behind its two, a top-up by 2000 pence of this gate and number, and
-/// with this number of gate 7 in the second. The first is of gate 7 with number 1.
+/// The journal with a third touch behind its two, a top-up by 2000 pence of this gate and number,
+/// and with this number of gate 7 in the second. The first is of gate 7 with number 1.
 fn with_third(second: u8, gate: u8, number: u8) -> [u8; 257] {
     let mut bytes = [0; 257];
     bytes[..192].copy_from_slice(&FILE[..192]);

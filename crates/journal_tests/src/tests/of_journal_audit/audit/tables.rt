@@ -11,7 +11,8 @@ const EXAMPLE_DIGEST: [u8; 32] =
     *b"\x17\x08\xbe\xf1\xd8\x12\x4f\x49\x75\x3d\x74\xc2\x9f\xa7\x19\x2b\
     \x3d\xa7\x03\xa4\x24\x81\xf5\x95\x04\xb7\x6a\x41\xec\x00\x24\x28";
 
-/// The slot of a revision of gate 7 with number 6, from fare day 20095 on, but for the table's digest.
+/// The slot of a revision of gate 7 with number 6, from fare day 20095 on, but for the table's
+/// digest.
 const REVISION: [u8; 12] = *b"\xa5\x06\x00\x07\x00\x00\x00\x06\x00\x00\x00\x00";
 
 /// A schedule of the example table alone. There is none for want of memory.

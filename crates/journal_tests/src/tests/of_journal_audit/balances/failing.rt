@@ -68,8 +68,8 @@ fn a_beginning_of_the_balances_stands_where_a_write_fails(rt: HostRuntime) -> Re
     Ok(())
 }
 
-/// How the balances of the worked journal end. Nothing is written where memory was refused. There are
-/// none where there was no memory for the table or the journal.
+/// How the balances of the worked journal end. Nothing is written where memory was refused. There
+/// are none where there was no memory for the table or the journal.
 fn attempt(rt: &impl Abort, alloc: Global) -> Option<Result<Totals, AuditFault>> {
     let bytes = journal(alloc, b'2', 64, &WORKED)?;
     let schedule = example(alloc)?;

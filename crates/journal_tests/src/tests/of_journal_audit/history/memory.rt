@@ -28,8 +28,9 @@ impl Write for Room {
     }
 }
 
-/// How the history of the worked journal ends. So short a one stands in one piece: nothing is written
-/// where it was refused memory. There is none where there was no memory for what it is given.
+/// How the history of the worked journal ends. So short a one stands in one piece: nothing is
+/// written where it was refused memory. There is none where there was no memory for what it is
+/// given.
 fn attempt(rt: &impl Abort, alloc: Global) -> Option<Result<(), AuditFault>> {
     let schedule = example(alloc)?;
     let bytes = journal(alloc, false, &FRAMES)?;

@@ -2,8 +2,8 @@
 
 use super::*;
 
-/// A revision of gate 7 from fare day 20095, 2025-01-07, to the example table itself, and one more from
-/// the same day.
+/// A revision of gate 7 from fare day 20095, 2025-01-07, to the example table itself, and one more
+/// from the same day.
 const REVISIONS: [&str; 2] = [
     "00330600070000000900000009\
     1708bef1d8124f49753d74c29fa7192b3da703a42481f59504b76a41ec00242800004e7f677b8d80",
@@ -19,9 +19,10 @@ const REVISED: [&str; 2] = [
     1708bef1d8124f49753d74c29fa7192b3da703a42481f59504b76a41ec002428,,BadDay,0,0",
 ];
 
-/// Touches of the cards 1 and 2 on 2025-01-06, each with the end of its row. By docs/FARES.md, "Worked
-/// examples": issue, top up 9001, 50000, 50001, 9000, 1, issue again, in at 9; on another card issue, top
-/// up 189, 08:00 in at 2, top up 1, 08:00 in at 2, 07:59 out at 2; and cards that weren't issued.
+/// Touches of the cards 1 and 2 on 2025-01-06, each with the end of its row. By docs/FARES.md,
+/// "Worked examples": issue, top up 9001, 50000, 50001, 9000, 1, issue again, in at 9; on another
+/// card issue, top up 189, 08:00 in at 2, top up 1, 08:00 in at 2, 07:59 out at 2; and cards that
+/// weren't issued.
 const TOUCHES: [(&str, &str); 14] = [
     ("000f0400010000000100000002677b8b28", ",issue,,,Issued,0,0"),
     (
@@ -75,9 +76,9 @@ const TOUCHES: [(&str, &str); 14] = [
     ),
 ];
 
-/// A card with 2000 pence by docs/FARES.md, "Worked examples": out 1 at 08:00 with no touch in, in 4 at
-/// 08:05; the second in 2 at 08:00 and again at 08:10, out 1 at 08:30; the third in 2 at 08:00, out 1 at
-/// 08:25, in 4 at 08:33; the fourth in 2 at 08:00 and out 1 at 09:30:01.
+/// A card with 2000 pence by docs/FARES.md, "Worked examples": out 1 at 08:00 with no touch in, in
+/// 4 at 08:05; the second in 2 at 08:00 and again at 08:10, out 1 at 08:30; the third in 2 at
+/// 08:00, out 1 at 08:25, in 4 at 08:33; the fourth in 2 at 08:00 and out 1 at 09:30:01.
 const JOURNEYS: [(&str, &str); 18] = [
     ("000f0400010000000100000001677b8b28", ",Issued,0,0"),
     (
