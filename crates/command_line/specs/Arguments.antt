@@ -1,8 +1,13 @@
--- Which command lines are allowed (docs/COMMANDS.md; this project's choice).
+-- Which command lines are allowed (docs/COMMANDS.md; this project's choice). proofs/Examples.antt
+-- computes the limits.
 use Rattle.std.specs.Prelude.{◌≡◌, ◌≤◌, ℕ, IfSome, length}
 use Rattle.command_line.specs.declared.arguments.Arguments.{Arguments}
 use Rattle.command_line.specs.declared.arguments.Arguments.TheVariants as asked
 use Rattle.command_line.specs.declared.arguments.Serve.{Serve}
+use Rattle.command_line.specs.declared.arguments.TheConstants.{CARDS_LIMIT, CAPACITY_LIMIT}
+use Rattle.command_line.specs.declared.arguments.TheConstants.{LINES_LIMIT}
+use Rattle.command_line.specs.declared.arguments.TheConstants.{CONNECTIONS_LIMIT, IDLE_LIMIT}
+use Rattle.command_line.specs.declared.arguments.TheConstants.{REPORT_LIMIT}
 use Rattle.command_line.specs.declared.arguments.Verify.{Verify}
 use Rattle.command_line.specs.declared.balances.Balances.{Balances}
 use Rattle.command_line.specs.declared.check.Check.{Check}
@@ -11,25 +16,31 @@ use Rattle.command_line.specs.declared.check.Journey.{Journey}
 use Rattle.command_line.specs.declared.history.History.{History}
 use Rattle.command_line.specs.declared.seal.Seal.{Seal}
 use Rattle.command_line.specs.declared.seal.Sealed.{Sealed}
+use Rattle.command_line.specs.declared.seal.TheConstants.{SEAL_SIZE}
+
+-- the number is from the least to the most
+abbrev pub IsBetween : ℕ → ℕ → ℕ → Type 0
+IsBetween least most number = (least ≤ number) × (number ≤ most)
 
 -- the number is from 1 to this limit
 abbrev pub IsWithin : ℕ → ℕ → Type 0
-IsWithin limit number = (1 ≤ number) × (number ≤ limit)
+IsWithin limit number = IsBetween 1 limit number
 
 -- a station has 1 to 100,000 cards and a journal of 1 to 1,000,000 touches, and a server 1 to 64
--- lines; a line is done, if at all, after 1 to 1,000,000 connections, a silent gate is given up, if at
--- all, after 1 to 1,000,000 seconds, and how it stands is told, if at all, each 1 to 1,000,000 seconds
+-- lines; a line is done, if at all, after 1 to 1,000,000 connections, a silent gate is given up, if
+-- at all, after 1 to 1,000,000 seconds, and how it stands is told, if at all, each 1 to 1,000,000
+-- seconds
 pub record IsServeAllowed (serve : Serve) : Type 0 where
-  pub cards : IsWithin 100_000 serve.cards
-  pub capacity : IsWithin 1_000_000 serve.capacity
-  pub lines : IsWithin 64 serve.lines
-  pub connections : IfSome serve.connections (IsWithin 1_000_000)
-  pub idle : IfSome serve.idle (IsWithin 1_000_000)
-  pub report : IfSome serve.report (IsWithin 1_000_000)
+  pub cards : IsWithin CARDS_LIMIT serve.cards
+  pub capacity : IsWithin CAPACITY_LIMIT serve.capacity
+  pub lines : IsWithin LINES_LIMIT serve.lines
+  pub connections : IfSome serve.connections (IsWithin CONNECTIONS_LIMIT)
+  pub idle : IfSome serve.idle (IsWithin IDLE_LIMIT)
+  pub report : IfSome serve.report (IsWithin REPORT_LIMIT)
 
 -- a seal is of at most 1,000,000 touches, and its digest has 32 bytes
 abbrev pub IsSealedAllowed : Sealed → Type 0
-IsSealedAllowed sealed = (sealed.touches ≤ 1_000_000) × (length sealed.digest ≡ 32)
+IsSealedAllowed sealed = (sealed.touches ≤ CAPACITY_LIMIT) × (length sealed.digest ≡ SEAL_SIZE)
 
 -- a journal is held against such a seal, if against any
 abbrev pub IsSealAllowed : Seal → Type 0
@@ -38,16 +49,16 @@ IsSealAllowed seal = IfSome seal.kept IsSealedAllowed
 -- a journal is verified with such a seal, and with numbers that a station's journal may have
 pub record IsVerifyAllowed (verify : Verify) : Type 0 where
   pub seal : IsSealAllowed verify.seal
-  pub cards : IfSome verify.expect_cards (IsWithin 100_000)
-  pub capacity : IfSome verify.expect_capacity (IsWithin 1_000_000)
+  pub cards : IfSome verify.expect_cards (IsWithin CARDS_LIMIT)
+  pub capacity : IfSome verify.expect_capacity (IsWithin CAPACITY_LIMIT)
 
 -- a card has one of 100,000 numbers
 abbrev pub IsHistoryAllowed : History → Type 0
-IsHistoryAllowed history = IfSome history.card (IsWithin 100_000)
+IsHistoryAllowed history = IfSome history.card (IsWithin CARDS_LIMIT)
 
 -- balances are told after at most 1,000,000 touches
 abbrev pub IsBalancesAllowed : Balances → Type 0
-IsBalancesAllowed balances = IfSome balances.at (λ touches. touches ≤ 1_000_000)
+IsBalancesAllowed balances = IfSome balances.at (λ touches. touches ≤ CAPACITY_LIMIT)
 
 -- stations have numbers from 1
 pub record IsJourneyAllowed (journey : Journey) : Type 0 where
@@ -62,10 +73,10 @@ IsCheckAllowed (checks.Changes before after) = Unit {0}
 
 -- so it is of each command
 abbrev pub IsAllowed : Arguments → Type 0
-IsAllowed (asked.Replay table cards revisions) = IsWithin 100_000 cards
+IsAllowed (asked.Replay table cards revisions) = IsWithin CARDS_LIMIT cards
 IsAllowed (asked.Check check) = IsCheckAllowed check
 IsAllowed (asked.Serve serve) = IsServeAllowed serve
-IsAllowed (asked.Migrate migrate) = IsWithin 100_000 migrate.cards
+IsAllowed (asked.Migrate migrate) = IsWithin CARDS_LIMIT migrate.cards
 IsAllowed (asked.Verify verify) = IsVerifyAllowed verify
 IsAllowed (asked.History history) = IsHistoryAllowed history
 IsAllowed (asked.Balances balances) = IsBalancesAllowed balances

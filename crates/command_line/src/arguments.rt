@@ -1,15 +1,16 @@
 //! What the words of a command line ask for.
 
-ghost use Rattle.std.specs.Prelude.{◌≡◌, ◌≤◌, IfOk, IfSome};
+ghost use Rattle.std.specs.Prelude.{◌≡◌, IfOk, IfSome};
 ghost use Rattle.clap.specs.Values.{kind_of};
-ghost use Rattle.clap.specs.declared.error.kind.ErrorKind.TheVariants.{InvalidSubcommand, InvalidValue};
+ghost use Rattle.clap.specs.declared.error.kind.ErrorKind.TheVariants.{InvalidSubcommand};
+ghost use Rattle.clap.specs.declared.error.kind.ErrorKind.TheVariants.{InvalidValue};
 ghost use Rattle.command_line.specs.Arguments.{IsAllowed, IsServeAllowed, IsVerifyAllowed};
-ghost use Rattle.command_line.specs.Arguments.{IsWithin};
 
 use crate::balances::{Balances, balances_asked};
 use crate::check::{Check, check_asked};
 use crate::commands::{command, command_named};
 use crate::history::{History, history_asked};
+use crate::number::{number_asked, number_given, short_in};
 use crate::seal::{Seal, seal_asked};
 use clap::error::ErrorKind;
 use clap::{ArgMatches, Command, Error};
@@ -283,9 +284,9 @@ fn serve_asked<'a>(matches: &ArgMatches<'a>, revisions: Vec<&'a str>) -> Option<
     let cards = number_asked(matches, "cards", CARDS_LIMIT)?;
     let capacity = number_asked(matches, "capacity", CAPACITY_LIMIT)?;
     let lines = number_asked(matches, "lines", LINES_LIMIT)?;
-    let connections = number_given(matches, "connections", CONNECTIONS_LIMIT)?;
-    let idle = number_given(matches, "idle", IDLE_LIMIT)?;
-    let report = number_given(matches, "report", REPORT_LIMIT)?;
+    let connections = number_given(matches, "connections", 1, CONNECTIONS_LIMIT)?;
+    let idle = number_given(matches, "idle", 1, IDLE_LIMIT)?;
+    let report = number_given(matches, "report", 1, REPORT_LIMIT)?;
     let stay_halted = matches.get_flag("stay-halted");
     let strict = matches.get_flag("strict");
     let standby = matches.get_flag("standby");
@@ -304,17 +305,6 @@ fn serve_asked<'a>(matches: &ArgMatches<'a>, revisions: Vec<&'a str>) -> Option<
         strict,
         standby,
     }))
-}
-
-/// The number that an option has which may be left out. `None` where it is given and isn't from 1
-/// to this limit.
-pub(crate) fn number_given(matches: &ArgMatches<'_>, name: &str, limit: u32) -> Option<Option<u32>>
-    ensures { IfSome result (λ given. IfSome given (IsWithin limit)) }
-{
-    match matches.get_str(name) {
-        Some(_) => Some(Some(number_asked(matches, name, limit)?)),
-        None => Some(None),
-    }
 }
 
 /// The carrying over of a journal that the matches of its command ask for.
@@ -340,8 +330,8 @@ fn verify_asked<'a>(matches: &ArgMatches<'a>, revisions: Vec<&'a str>) -> Option
     let journal = matches.get_str("journal")?;
     let table = matches.get_str("table");
     let seal = seal_asked(matches)?;
-    let expect_cards = number_given(matches, "expect-cards", CARDS_LIMIT)?;
-    let expect_capacity = number_given(matches, "expect-capacity", CAPACITY_LIMIT)?;
+    let expect_cards = number_given(matches, "expect-cards", 1, CARDS_LIMIT)?;
+    let expect_capacity = number_given(matches, "expect-capacity", 1, CAPACITY_LIMIT)?;
     let gate = gate_asked(matches)?;
     Some(Arguments::Verify(Verify {
         journal,
@@ -357,16 +347,9 @@ fn verify_asked<'a>(matches: &ArgMatches<'a>, revisions: Vec<&'a str>) -> Option
 /// The gate whose file is verified, where one is named. `None` where its number is none.
 fn gate_asked(matches: &ArgMatches<'_>) -> Option<Option<u16>> {
     match matches.get_str("gate") {
-        Some(text) => Some(Some(gate_in(text)?)),
+        Some(text) => Some(Some(short_in(text, 0)?)),
         None => Some(None),
     }
-}
-
-/// The number of a gate that a text is, in decimal digits alone.
-fn gate_in(text: &str) -> Option<u16> {
-    let gate = text.parse::<u16>().ok()?;
-    let is_decimal = text.bytes().all(|byte| byte.is_ascii_digit());
-    if is_decimal { Some(gate) } else { None }
 }
 
 /// The history that the matches of its command ask for.
@@ -381,33 +364,4 @@ fn balances_of<'a>(matches: &ArgMatches<'a>, revisions: Vec<&'a str>) -> Option<
     ensures { IfSome result IsAllowed }
 {
     Some(Arguments::Balances(balances_asked(matches, revisions)?))
-}
-
-/// The number that an option has. `None` where it isn't from 1 to this limit, or isn't written in
-/// decimal digits alone: a parser of numbers takes a sign as well.
-fn number_asked(matches: &ArgMatches<'_>, name: &str, limit: u32) -> Option<u32>
-    ensures { IfSome result (IsWithin limit) }
-{
-    let text = matches.get_str(name)?;
-    let number = matches.get_one::<u32>(name)?;
-    let is_decimal = text.bytes().all(|byte| byte.is_ascii_digit());
-    if is_decimal && 0 < number && number <= limit {
-        Some(number)
-    } else {
-        None
-    }
-}
-
-/// The number of touches that a text is, in decimal digits alone: a parser of numbers takes a sign
-/// as well. `None` where it is above what a journal has room for.
-pub(crate) fn count_in(text: &str) -> Option<u32>
-    ensures { IfSome result (λ touches. touches ≤ CAPACITY_LIMIT) }
-{
-    let touches = text.parse::<u32>().ok()?;
-    let is_decimal = text.bytes().all(|byte| byte.is_ascii_digit());
-    if is_decimal && touches <= CAPACITY_LIMIT {
-        Some(touches)
-    } else {
-        None
-    }
 }

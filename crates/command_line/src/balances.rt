@@ -1,10 +1,10 @@
 //! The balances of a journal's cards that the words of a command line ask for.
 
-ghost use Rattle.std.specs.Prelude.{◌≤◌, IfSome};
-ghost use Rattle.command_line.specs.declared.arguments.TheConstants.{CAPACITY_LIMIT};
+ghost use Rattle.std.specs.Prelude.{IfSome};
 ghost use Rattle.command_line.specs.Arguments.{IsBalancesAllowed};
 
-use crate::arguments::count_in;
+use crate::arguments::CAPACITY_LIMIT;
+use crate::number::number_given;
 use clap::ArgMatches;
 
 /// What the balances of a journal's cards are asked for.
@@ -30,21 +30,11 @@ pub(crate) fn balances_asked<'a>(
 {
     let table = matches.get_str("table")?;
     let journal = matches.get_str("journal")?;
-    let at = count_given(matches)?;
+    let at = number_given(matches, "at", 0, CAPACITY_LIMIT)?;
     Some(Balances {
         table,
         journal,
         revisions,
         at,
     })
-}
-
-/// The number of touches that is asked for, where one is. `None` where it is none.
-fn count_given(matches: &ArgMatches<'_>) -> Option<Option<u32>>
-    ensures { IfSome result (λ given. IfSome given (λ count. count ≤ CAPACITY_LIMIT)) }
-{
-    match matches.get_str("at") {
-        Some(text) => Some(Some(count_in(text)?)),
-        None => Some(None),
-    }
 }

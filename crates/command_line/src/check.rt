@@ -3,6 +3,7 @@
 ghost use Rattle.std.specs.Prelude.{◌≡◌, ◌≤◌, IfSome};
 ghost use Rattle.command_line.specs.Arguments.{IsJourneyAllowed, IsCheckAllowed};
 
+use crate::number::short_in;
 use clap::ArgMatches;
 use money_time::day_of;
 
@@ -12,8 +13,8 @@ const DAY_SECONDS: i64 = 86_400;
 /// What the check of a fare table is asked for.
 #[derive(Clone, Copy, Debug, PartialEq, Eq)]
 pub enum Check<'a> {
-    /// Whether the table in the file of this path is valid, and where `strict` that there is no note
-    /// on it either.
+    /// Whether the table in the file of this path is valid, and where `strict` that there is no
+    /// note on it either.
     Report { table: &'a str, strict: bool },
     /// What a journey costs by the table in the file of this path.
     Fare { table: &'a str, journey: Journey },
@@ -73,23 +74,10 @@ fn journey_asked(matches: &ArgMatches<'_>) -> Option<Option<Journey>>
 fn journey_in(from: &str, to: &str, moment: &str) -> Option<Journey>
     ensures { IfSome result IsJourneyAllowed }
 {
-    let from = station_in(from)?;
-    let to = station_in(to)?;
+    let from = short_in(from, 1)?;
+    let to = short_in(to, 1)?;
     let moment = moment_in(moment.as_bytes(), moment)?;
     Some(Journey { from, to, moment })
-}
-
-/// The number of a station, from 1, in decimal digits alone.
-fn station_in(text: &str) -> Option<u16>
-    ensures { IfSome result (λ station. 1 ≤ station) }
-{
-    let number = text.parse::<u16>().ok()?;
-    let is_decimal = text.bytes().all(|byte| byte.is_ascii_digit());
-    if is_decimal && 0 < number {
-        Some(number)
-    } else {
-        None
-    }
 }
 
 /// The moment of a date and a time of day in UTC, as 2025-01-07T08:30:00Z, in seconds since

@@ -3,7 +3,8 @@
 ghost use Rattle.std.specs.Prelude.{IfSome};
 ghost use Rattle.command_line.specs.Arguments.{IsHistoryAllowed};
 
-use crate::arguments::{CARDS_LIMIT, number_given};
+use crate::arguments::CARDS_LIMIT;
+use crate::number::number_given;
 use clap::ArgMatches;
 use money_time::day_of;
 
@@ -46,7 +47,7 @@ pub(crate) fn history_asked<'a>(
 {
     let table = matches.get_str("table")?;
     let journal = matches.get_str("journal")?;
-    let card = number_given(matches, "card", CARDS_LIMIT)?;
+    let card = number_given(matches, "card", 1, CARDS_LIMIT)?;
     let day = day_asked(matches)?;
     let format = format_asked(matches)?;
     Some(History {

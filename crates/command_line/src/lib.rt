@@ -8,6 +8,7 @@ mod balances;
 mod check;
 mod commands;
 mod history;
+mod number;
 mod seal;
 
 pub use arguments::{

@@ -5,7 +5,8 @@ ghost use Rattle.hex.specs.Hex.{decode_sized};
 ghost use Rattle.command_line.specs.declared.seal.TheConstants.{SEAL_SIZE};
 ghost use Rattle.command_line.specs.Arguments.{IsSealAllowed, IsSealedAllowed};
 
-use crate::arguments::count_in;
+use crate::arguments::CAPACITY_LIMIT;
+use crate::number::number_in;
 use clap::ArgMatches;
 use hex::FromHex;
 
@@ -54,7 +55,7 @@ fn kept_asked(matches: &ArgMatches<'_>) -> Option<Option<Sealed>>
 fn sealed_in(touches: &str, digest: &str) -> Option<Sealed>
     ensures { IfSome result IsSealedAllowed }
 {
-    let touches = count_in(touches)?;
+    let touches = number_in(touches, 0, CAPACITY_LIMIT)?;
     let digest = digest_in(digest)?;
     Some(Sealed { touches, digest })
 }

@@ -5,7 +5,9 @@ use Rattle.std.specs.Fmt.{decimal}
 use Rattle.gate_client.specs.Texts.{printed_file_fault, printed_ask_fault}
 use Rattle.gate_sending.specs.Texts.{printed_settle_fault}
 use Rattle.gate_send.specs.declared.fault.SendFault.{SendFault}
-use Rattle.gate_send.specs.declared.fault.SendFault.TheVariants.{Line, Memory, Read, Write, File, GateFile, BadLine, Clock, Ask, Settle}
+use Rattle.gate_send.specs.declared.fault.SendFault.TheVariants.{Line, Memory, Read, Write, File}
+use Rattle.gate_send.specs.declared.fault.SendFault.TheVariants.{GateFile, BadLine, Clock, Ask}
+use Rattle.gate_send.specs.declared.fault.SendFault.TheVariants.{Settle}
 
 -- the line of a fault: the name of its part, and what that part prints of it; what is said of a
 -- command line is `clap`'s, which doesn't state it

@@ -37,6 +37,19 @@ Example, what waits from before, by two stations of one journal:
 Statuses: 0 all is answered, 1 a fault (standard error has its line; a touch that was kept waits in
 the file), 2 a wrong command line";
 
+/// What is said of the option `timeout`.
+const TIMEOUT_HELP: &str = "How long a connection or an answer is waited for, from 1 to 3600000;
+without it 2000";
+
+/// What is said of the option `pause`.
+const PAUSE_HELP: &str = "The pause before the second try, from 1 to 30000, without it 200;
+each further one is twice as long, up to 30000";
+
+/// What is said of the station's addresses.
+const ADDRESSES_HELP: &str =
+    "The station's addresses and ports, as 192.168.1.10:7040: the next one is
+taken after a fault";
+
 /// The most touches that a gate's file has room for.
 pub(crate) const CAPACITY_LIMIT: u32 = 1_000_000;
 /// The highest number of a gate.
@@ -221,16 +234,12 @@ fn with_tries<'a>(alloc: Global, command: Command<'a>) -> Result<Command<'a>, Al
     let command = command.arg(
         number(alloc, "timeout", 1, TIMEOUT_LIMIT)
             .value_name("MILLISECONDS")
-            .help(
-                "How long a connection or an answer is waited for, from 1 to 3600000;\nwithout it 2000",
-            ),
+            .help(TIMEOUT_HELP),
     )?;
     let command = command.arg(
         number(alloc, "pause", 1, LONGEST_PAUSE)
             .value_name("MILLISECONDS")
-            .help(
-                "The pause before the second try, from 1 to 30000, without it 200;\neach further one is twice as long, up to 30000",
-            ),
+            .help(PAUSE_HELP),
     )?;
     command.arg(
         Arg::new(alloc, "addresses")
@@ -238,9 +247,7 @@ fn with_tries<'a>(alloc: Global, command: Command<'a>) -> Result<Command<'a>, Al
             .num_args(1..)
             .action(ArgAction::Append)
             .required(true)
-            .help(
-                "The station's addresses and ports, as 192.168.1.10:7040: the next one is\ntaken after a fault",
-            ),
+            .help(ADDRESSES_HELP),
     )
 }
 

@@ -13,7 +13,8 @@ use Rattle.journal_commands.specs.Command.{audit_fault}
 use Rattle.journal_commands.specs.Differing.{other_table, other_cards, missing_table}
 use Rattle.journal_commands.specs.Migrated.{migrated_line}
 use Rattle.journal_commands.specs.Told.{told_fault}
-use Rattle.journal_commands.specs.declared.fault.CommandFault.TheVariants.{Listen, Place, Behind, Balance, Seal, Journal, Migrate, SeatMissing, Mismatch}
+use Rattle.journal_commands.specs.declared.fault.CommandFault.TheVariants.{Listen, Place, Behind, Balance, Seal}
+use Rattle.journal_commands.specs.declared.fault.CommandFault.TheVariants.{Journal, Migrate, SeatMissing, Mismatch}
 use Rattle.journal_commands.specs.declared.fault.CommandFault.TheVariants.{Header, Gate, Card, Output}
 use Rattle.journal_commands.specs.declared.output.TheConstants.{PIPE_STATUS}
 
@@ -43,7 +44,8 @@ a_fault_of_a_part_is_told_as_the_commands :
     × (told_fault (Journal journals.WrongTable no_detail) ≡ Some (codes "fault journal 5 WrongTable"))
     × (told_fault (Journal (journals.Damaged 0) no_detail) ≡ Some (codes "fault journal 7 Damaged 0"))
     × (told_fault (Journal (journals.MissingTable 4) no_detail) ≡ Some (codes "fault journal 13 MissingTable 4"))
-    × (told_fault (Migrate (causes.Old journals.WrongTable) no_detail) ≡ Some (codes "fault migrate 3 Old 5 WrongTable"))
+    × (told_fault (Migrate (causes.Old journals.WrongTable) no_detail)
+    ≡ Some (codes "fault migrate 3 Old 5 WrongTable"))
 unfolding digits
 a_fault_of_a_part_is_told_as_the_commands = (refl, refl, refl, refl, refl, refl)
 

@@ -7,9 +7,9 @@ use Rattle.tap_journal.specs.Image.{Image, OldImage}
 use Rattle.tap_journal.specs.Layout.{header_of}
 use Rattle.tap_journal.specs.Left.{AllLeft}
 
--- the file of the one word held a journal of the first format, made with these cards and this digest;
--- the other's was empty, and every crash now leaves a journal of the same touches there; so many there
--- are
+-- the file of the one word held a journal of the first format, made with these cards and this
+-- digest; the other's was empty, and every crash now leaves a journal of the same touches there; so
+-- many there are
 pub record HasCarried {D : Type 0} (honest : D → Type 0) (content : D → List ℕ)
     (outcome : D → List ℕ → Type 0) (opened_alone opened : List ℕ → D → Type 0) (migrate : Migrate)
     (digest : List ℕ) (number : ℕ) : Type 0 where

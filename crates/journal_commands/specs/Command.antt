@@ -9,7 +9,7 @@ use Rattle.journal_audit.specs.declared.fault.AuditFault.TheVariants as audits
 use Rattle.journal_audit.specs.declared.audit.seal.Seal.{Seal}
 use Rattle.journal_audit.specs.declared.audit.header.Asked.{Asked}
 use Rattle.journal_audit.specs.declared.audit.seal.Sealed.{Sealed}
-use Rattle.line_replay.specs.declared.fault.RunFault.TheVariants as runs
+use Rattle.text_io.specs.declared.fault.RunFault.TheVariants as runs
 use Rattle.table_commands.specs.Detail.{no_detail}
 use Rattle.table_commands.specs.declared.fault.TrialFault.TheVariants.{Run}
 use Rattle.journal_commands.specs.declared.fault.CommandFault.{CommandFault}

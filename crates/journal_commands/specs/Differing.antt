@@ -1,10 +1,11 @@
--- What stands behind the fault of a journal: the two values that differ, or the table that is missing
--- (docs/FAULTS.md, "The second line"; this project's choice).
+-- What stands behind the fault of a journal: the two values that differ, or the table that is
+-- missing (docs/FAULTS.md, "The second line"; this project's choice).
 use Rattle.std.specs.Prelude.{ℕ, List, ◌++◌, Bool, if◌then◌else◌, codes}
 use Rattle.std.specs.Fmt.{decimal}
 use Rattle.hex.specs.Hex.{encode_lower}
 
--- the journal was made with the table of the first digest, and the file that was named has the second
+-- the journal was made with the table of the first digest, and the file that was named has the
+-- second
 abbrev pub other_table : List ℕ → List ℕ → List ℕ → List ℕ
 other_table made file given =
     codes "made with the table "

@@ -1,7 +1,7 @@
 -- When a command ends without a fault's line, since nobody reads what it writes (docs/COMMANDS.md,
 -- "history"; this project's choice).
 use Rattle.std.specs.Prelude.{◌≡◌, ℤ, pos, Option, Some}
-use Rattle.line_replay.specs.declared.fault.RunFault.TheVariants as runs
+use Rattle.text_io.specs.declared.fault.RunFault.TheVariants as runs
 use Rattle.table_commands.specs.declared.fault.TrialFault.TheVariants.{Run}
 use Rattle.table_commands.specs.declared.refusal.Refusal.{Refusal}
 use Rattle.table_commands.specs.declared.refusal.Refusal.TheVariants.{Other}

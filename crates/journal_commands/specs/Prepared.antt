@@ -1,5 +1,5 @@
--- What became of a disk on which a journal was to be made (docs/COMMANDS.md, "serve"; this project's
--- choice).
+-- What became of a disk on which a journal was to be made (docs/COMMANDS.md, "serve"; this
+-- project's choice).
 use Rattle.std.specs.Prelude.{◌≡◌, ℕ, List, []}
 use Rattle.journal_commands.specs.declared.making.Unprepared.{Unprepared}
 use Rattle.journal_commands.specs.declared.making.Unprepared.TheVariants.{Unseen, Unmade}

@@ -3,14 +3,17 @@
 use Rattle.std.specs.Prelude.{ℕ, List, ◌++◌, Option, Some, codes}
 use Rattle.std.specs.Fmt.{decimal}
 use Rattle.journal_audit.specs.Texts.{printed_gate_fault, printed_header_fault, printed_seal_fault}
-use Rattle.line_replay.specs.declared.fault.RunFault.TheVariants.{Write}
+use Rattle.text_io.specs.declared.fault.RunFault.TheVariants.{Write}
 use Rattle.table_commands.specs.Told.{told_trial}
 use Rattle.table_commands.specs.declared.fault.TrialFault.TheVariants.{Run}
 use Rattle.tap_journal.specs.Texts.{printed_cause, printed_fault as printed_journal_fault}
 use Rattle.journal_commands.specs.declared.fault.CommandFault.{CommandFault}
-use Rattle.journal_commands.specs.declared.fault.CommandFault.TheVariants.{Trial, Journal, Migrate, Header, Seal}
+use Rattle.journal_commands.specs.declared.fault.CommandFault.TheVariants.{Trial, Journal, Migrate}
+use Rattle.journal_commands.specs.declared.fault.CommandFault.TheVariants.{Header, Seal}
 use Rattle.journal_commands.specs.declared.fault.CommandFault.TheVariants.{Gate, Card, Output}
-use Rattle.journal_commands.specs.declared.fault.CommandFault.TheVariants.{Place, Behind, Balance, Listen, SeatMissing, Mismatch}
+use Rattle.journal_commands.specs.declared.fault.CommandFault.TheVariants.{Place, Behind, Balance}
+use Rattle.journal_commands.specs.declared.fault.CommandFault.TheVariants.{Listen, SeatMissing}
+use Rattle.journal_commands.specs.declared.fault.CommandFault.TheVariants.{Mismatch}
 
 -- the line of a fault: the name of its part, and what that part prints of it
 abbrev pub told_fault : CommandFault → Option (List ℕ)

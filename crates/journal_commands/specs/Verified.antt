@@ -1,8 +1,8 @@
--- What `verify` has written where it ends, by the words of its command line (docs/COMMANDS.md, "verify";
--- docs/FAULTS.md; this project's choice).
+-- What `verify` has written where it ends, by the words of its command line (docs/COMMANDS.md,
+-- "verify"; docs/FAULTS.md; this project's choice).
 use Rattle.std.specs.Prelude.{◌≡◌, ◌⊎◌, ℕ, List, map, Option, Some, None, option_map}
 use Rattle.command_line.specs.declared.arguments.Verify.{Verify}
-use Rattle.gate_session.specs.Writing.{Wrote}
+use Rattle.text_io.specs.Writing.{Wrote}
 use Rattle.journal_audit.specs.Audit.{IsSound, HasEnded}
 use Rattle.journal_audit.specs.declared.audit.finding.Finding.{Finding}
 use Rattle.journal_audit.specs.declared.audit.finding.Finding.TheVariants.{Sound, LookBehind}
@@ -48,12 +48,15 @@ abbrev pub IsUnread : (List ℕ → List ℕ → Type 0) → Verify → CommandF
 IsUnread gave verify (Trial fault) = AreTablesRefused gave verify fault ⊎ IsFileFault fault
 IsUnread gave verify _ = ⊥
 
--- of the tables of the words, the bytes of the journal's file and the text that was written this is said
+-- of the tables of the words, the bytes of the journal's file and the text that was written this is
+-- said
 pub record HasVerified (gave : List ℕ → List ℕ → Type 0) (verify : Verify)
-    (before after : Option (List ℕ)) (Says : Option Tables → List ℕ → List ℕ → Type 0) : Type 0 where
+    (before after : Option (List ℕ)) (Says : Option Tables → List ℕ → List ℕ → Type 0)
+    : Type 0 where
   pub tables : Option Tables
   pub asked : AreTablesAsked gave verify tables
-  pub written : ForFile gave verify.journal.now (λ bytes. Wrote before after (λ text. Says tables bytes text))
+  pub written : ForFile gave verify.journal.now
+      (λ bytes. Wrote before after (λ text. Says tables bytes text))
 
 -- the status of what is found: 0, or 3 where more is to be looked at
 abbrev pub status_of : Finding → ℕ
@@ -102,8 +105,8 @@ HasVerifiedAs gave verify None before after status =
 HasVerifiedAs gave verify (Some gate) before after status =
     HasVerifiedFile gave verify gate before after status
 
--- so it is of why that isn't done: the tables or the file aren't had, and nothing was written, or the
--- audit ended early
+-- so it is of why that isn't done: the tables or the file aren't had, and nothing was written, or
+-- the audit ended early
 abbrev pub IsUnverifiedAs : (List ℕ → List ℕ → Type 0) → Verify → Option ℕ → Option (List ℕ)
     → Option (List ℕ) → Type 0 → CommandFault → Type 0
 IsUnverifiedAs gave verify None before after same fault =

@@ -1,7 +1,7 @@
 -- What a command over a journal has written where it ends, by the words of its command line
 -- (docs/COMMANDS.md; this project's choice).
 use Rattle.std.specs.Prelude.{◌≡◌, ◌⊎◌, ℕ, List, Option, Some}
-use Rattle.gate_session.specs.Writing.{Wrote}
+use Rattle.text_io.specs.Writing.{Wrote}
 use Rattle.reply_book.specs.Tables.{Tables}
 use Rattle.table_commands.specs.Files.{ForFile, IsFileFault}
 use Rattle.table_commands.specs.Tables.{ForTables, AreRefused}
@@ -10,8 +10,8 @@ use Rattle.table_commands.specs.declared.fault.TrialFault.TheVariants.{File}
 use Rattle.journal_commands.specs.declared.fault.CommandFault.{CommandFault}
 use Rattle.journal_commands.specs.declared.fault.CommandFault.TheVariants.{Trial}
 
--- of the tables of these words, the bytes of the journal's file and the text that was written this is
--- said
+-- of the tables of these words, the bytes of the journal's file and the text that was written this
+-- is said
 abbrev pub HasTold : (List ℕ → List ℕ → Type 0) → List ℕ → List (List ℕ) → List ℕ
     → Option (List ℕ) → Option (List ℕ) → (Tables → List ℕ → List ℕ → Type 0) → Type 0
 HasTold gave first further journal before after Says =

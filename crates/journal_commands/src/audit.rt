@@ -19,9 +19,9 @@ use std::io::Write;
 use std::process::ExitCode;
 use table_commands::{TrialFault, WholeFiles, tables_in};
 
-/// Writes what the journal in a file holds, by the fare tables that are named, where they are. Where a
-/// gate is named, it is that gate's file, and no table is looked at. The status is 3 where more is to
-/// be looked at.
+/// Writes what the journal in a file holds, by the fare tables that are named, where they are.
+/// Where a gate is named, it is that gate's file, and no table is looked at. The status is 3 where
+/// more is to be looked at.
 ///
 /// The tables are looked at first, and then the journal's file. It is opened for reading alone, and
 /// isn't locked: a server or a gate may go on with it. It is read to its end before anything is
@@ -43,7 +43,8 @@ pub fn verify_journal<F: WholeFiles, W: Write>(
     }
 }
 
-/// Writes what a station's journal in a file holds, by the fare tables that are named, where they are.
+/// Writes what a station's journal in a file holds, by the fare tables that are named, where they
+/// are.
 fn verify_station<F: WholeFiles, W: Write>(
     alloc: Global,
     files: &F,

@@ -1,5 +1,5 @@
-//! What stands behind the fault of a journal: the two values that differ, or the table that is missing.
-//! The fault itself doesn't say it, so the files are read again.
+//! What stands behind the fault of a journal: the two values that differ, or the table that is
+//! missing. The fault itself doesn't say it, so the files are read again.
 
 ghost use Rattle.std.specs.Prelude.{◌≡◌, ◌≤◌, ◌<◌, [], length, string_bytes, IfOk, IfSome};
 ghost use Rattle.fare_schedule.specs.Schedule.{revisions_of};
@@ -104,9 +104,9 @@ impl<'a> OpenedBy<'a> {
     }
 }
 
-/// The fault of a command, with what stands behind its line: of `WrongTable` and `WrongCards` what the
-/// journal has and what was given, and of `MissingTable` which table it is, the day of its revision, and
-/// whether that was accepted. Its line stays, and any other fault stays as it is.
+/// The fault of a command, with what stands behind its line: of `WrongTable` and `WrongCards` what
+/// the journal has and what was given, and of `MissingTable` which table it is, the day of its
+/// revision, and whether that was accepted. Its line stays, and any other fault stays as it is.
 ///
 /// Where a file can't be read again, or without memory, nothing more is told.
 pub fn explained<F: WholeFiles>(
@@ -254,8 +254,8 @@ fn wanted_at(
     })
 }
 
-/// Whether a book accepts a touch as its next one. `None` where its table isn't there, where the book is
-/// full, and without memory.
+/// Whether a book accepts a touch as its next one. `None` where its table isn't there, where the
+/// book is full, and without memory.
 fn accepts(book: Book, touch: &Touch) -> Option<bool>
     requires { Stands book }
     ensures { IfSome result (λ accepted. accepted ≡ is_accepted (judge_after (tables_of book)

@@ -1,21 +1,22 @@
 //! Why a command didn't do what it was asked for, and what is told of it on standard error.
 
 ghost use Rattle.std.specs.Prelude.{◌≡◌};
-ghost use Rattle.line_replay.specs.declared.fault.RunFault.TheVariants.{Memory};
+ghost use Rattle.text_io.specs.declared.fault.RunFault.TheVariants.{Memory};
 ghost use Rattle.table_commands.specs.Detail.{no_detail};
 ghost use Rattle.table_commands.specs.declared.fault.TrialFault.TheVariants.{Run};
-ghost use Rattle.journal_commands.specs.declared.fault.CommandFault.TheVariants.{Journal, Migrate, Trial};
+ghost use Rattle.journal_commands.specs.declared.fault.CommandFault.TheVariants.{Journal, Migrate};
+ghost use Rattle.journal_commands.specs.declared.fault.CommandFault.TheVariants.{Trial};
 ghost use Rattle.journal_commands.specs.Command.{audit_fault};
 ghost use Rattle.journal_commands.specs.Told.{told_fault};
 
 use clap::Error as LineError;
 use journal_audit::{AuditFault, GateFault, HeaderFault, SealFault};
-use line_replay::RunFault;
 use std::alloc::AllocError;
 use std::process::ExitCode;
 use std::{fmt, io};
 use table_commands::{Detail, TrialFault, tell_fault};
 use tap_journal::{JournalFault, MigrateCause};
+use text_io::RunFault;
 use thiserror::Error;
 
 /// Why a command wasn't done.

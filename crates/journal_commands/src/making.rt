@@ -25,15 +25,17 @@ pub struct Prepared<D> {
 pub enum Unprepared<D> {
     /// It can't be looked at.
     Unseen(CommandFault),
-    /// It was empty, and the making of a journal failed on it. It may hold some bytes that are no journal.
+    /// It was empty, and the making of a journal failed on it. It may hold some bytes that are no
+    /// journal.
     Unmade(CommandFault, D),
 }
 
-/// Makes a journal of no touches on an empty disk, with the capacity and the cards of the words and with
-/// the first table of this digest. A server that is strict makes none: it leaves each disk as it is.
+/// Makes a journal of no touches on an empty disk, with the capacity and the cards of the words and
+/// with the first table of this digest. A server that is strict makes none: it leaves each disk as
+/// it is.
 ///
-/// A disk that holds something is only looked at. A fault is `Device`, or `BadLimit` for numbers that are
-/// out of their limits.
+/// A disk that holds something is only looked at. A fault is `Device`, or `BadLimit` for numbers
+/// that are out of their limits.
 pub fn prepare<D: Disk>(
     disk: D,
     digest: &[u8; DIGEST_SIZE],

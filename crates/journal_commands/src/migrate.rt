@@ -3,7 +3,7 @@
 ghost use Rattle.std.specs.Prelude.{◌≡◌, ◌⊎◌, ℕ, IfOk, IfErr, OnOk};
 ghost use Rattle.std.specs.Io.KnownBytes.{Appends};
 ghost use Rattle.std.specs.Process.{exit_status};
-ghost use Rattle.line_replay.specs.declared.fault.RunFault.TheVariants.{Write};
+ghost use Rattle.text_io.specs.declared.fault.RunFault.TheVariants.{Write};
 ghost use Rattle.table_commands.specs.declared.fault.TrialFault.TheVariants.{Run};
 ghost use Rattle.table_commands.specs.Tables.{IsTableIn};
 ghost use Rattle.fare_table.specs.Fares.{digest_of};
@@ -16,7 +16,6 @@ use crate::behind::tell_end;
 use crate::disks::JournalFiles;
 use crate::fault::CommandFault;
 use command_line::Migrate;
-use line_replay::RunFault;
 use std::alloc::Global;
 use std::io;
 use std::io::Write;
@@ -25,6 +24,7 @@ use std::rt::Files;
 use table_commands::{WholeFiles, first_table};
 use tap_disk::Disk;
 use tap_journal::Journal;
+use text_io::RunFault;
 
 /// Carries a journal of the first format over to a new file, and writes how many touches it has.
 ///

@@ -7,15 +7,15 @@ ghost use Rattle.journal_commands.specs.Told.{told_fault};
 ghost use Rattle.journal_commands.specs.declared.output.TheConstants.{PIPE_STATUS};
 
 use crate::fault::CommandFault;
-use line_replay::RunFault;
 use std::alloc::Global;
 use std::io;
 use std::io::Write;
 use std::process::ExitCode;
 use table_commands::{Detail, Refusal, TrialFault};
+use text_io::RunFault;
 
-/// The status of a command whose output goes to a pipe that nobody reads any more: that of a tool of
-/// the shell, which the signal SIGPIPE ends.
+/// The status of a command whose output goes to a pipe that nobody reads any more: that of a tool
+/// of the shell, which the signal SIGPIPE ends.
 pub const PIPE_STATUS: u8 = 141;
 
 /// A writer that notes why the system refused the last write that it did. It is that writer.
@@ -62,10 +62,10 @@ impl<W: Write + Drop> Write for Output<W> {
     }
 }
 
-/// How a command ends that wasn't done for this fault, where standard output refused a write for this
-/// reason. Where it was a failed write to a pipe that nobody reads any more, the command ends with
-/// `PIPE_STATUS`, and nothing is told. Of another failed write the reason is told behind the fault's
-/// line. Any other fault stays as it is.
+/// How a command ends that wasn't done for this fault, where standard output refused a write for
+/// this reason. Where it was a failed write to a pipe that nobody reads any more, the command ends
+/// with `PIPE_STATUS`, and nothing is told. Of another failed write the reason is told behind the
+/// fault's line. Any other fault stays as it is.
 pub fn ended_by(
     alloc: Global,
     refusal: Option<Refusal>,

@@ -11,16 +11,16 @@ use tap_disk::Disk;
 
 /// The file of a journal, which one server at a time can have.
 pub trait JournalLock<D: Disk> {
-    /// Takes the file, and its lock with it, or says why it isn't had: `Locked` where another server or
-    /// run has the lock.
+    /// Takes the file, and its lock with it, or says why it isn't had: `Locked` where another
+    /// server or run has the lock.
     fn take(&mut self) -> Result<D, Refusal>;
 
     /// Waits a while before the next try.
     fn wait(&mut self);
 }
 
-/// Takes a journal's file. A server on standby waits as long as another one has it, and is never refused
-/// for that; any other is refused at once.
+/// Takes a journal's file. A server on standby waits as long as another one has it, and is never
+/// refused for that; any other is refused at once.
 ///
 /// A lock that was let go while it was looked at is one to try again.
 pub fn take_journal<D: Disk, J: JournalLock<D>>(
