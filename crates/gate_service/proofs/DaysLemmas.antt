@@ -1,5 +1,6 @@
 -- The latest touches, and what is left of them without one gate's.
-use Rattle.std.proofs.Common.{◌≡◌, ℕ, ◌≤◌, Bool, true, false, cond, not, nat_eq, nat_lt, List, [], ◌∷◌, Option, Some, None, refl, ap, sym, ◌∙◌, arith}
+use Rattle.std.proofs.Common.{◌≡◌, ℕ, ◌≤◌, Bool, true, false, cond, not, nat_eq, nat_lt, List, [], ◌∷◌, Option, Some}
+use Rattle.std.proofs.Common.{None, refl, ap, sym, ◌∙◌, arith}
 use Rattle.std.proofs.lemmas.Grind.{common_steps}
 use Rattle.gate_service.specs.declared.days.GateDay.{GateDay}
 use Rattle.gate_service.specs.Days.{later, latest, of_others, beside}
@@ -74,7 +75,8 @@ not-false true is = refl
 not-false false is = absurd (cc is)
 
 -- the latest touch stays the latest where it is left
-pub stays-latest : (gate : ℕ) (left : Bool) (touch : GateDay) (before : Option GateDay) (rest : List GateDay) (first : GateDay)
+pub stays-latest : (gate : ℕ) (left : Bool) (touch : GateDay) (before : Option GateDay) (rest : List GateDay)
+    (first : GateDay)
     → IsNotLater before (latest rest)
     → ((other : GateDay) → before ≡ Some other → nat_eq other.gate gate ≡ false → latest rest ≡ Some other)
     → later before touch ≡ first → nat_eq first.gate gate ≡ false → left ≡ not (nat_eq touch.gate gate)
@@ -87,8 +89,8 @@ stays-latest gate true touch (Some before) rest first below same is other kept =
     kept-later touch before first (latest rest) (nat_lt before.day touch.day) refl below is
     (λ less. same before refl (stays-other gate touch before first (nat_lt before.day touch.day) less is other))
 stays-latest gate false touch (Some before) rest first below same is other kept =
-    left-out gate touch before first (latest rest) (nat_lt before.day touch.day) (not-false (nat_eq touch.gate gate) kept)
-    is other (same before refl)
+    left-out gate touch before first (latest rest) (nat_lt before.day touch.day)
+    (not-false (nat_eq touch.gate gate) kept) is other (same before refl)
 
 -- the latest touch is the latest of those of other gates than one that isn't its own
 pub latest-beside : (gate : ℕ) (touches : List GateDay) (first : GateDay) → latest touches ≡ Some first
@@ -108,7 +110,8 @@ above-first touches seen first is other less same =
       ap Some (sym later_is),
       sym (
           ap (λ (s : GateDay). latest (of_others s.gate (seen ∷ touches))) later_is
-          ∙ ap (λ (b : Bool). latest (cond (not b) (seen ∷ of_others seen.gate touches) (of_others seen.gate touches))) same
+          ∙ ap (λ (b : Bool). latest (cond (not b) (seen ∷ of_others seen.gate touches)
+          (of_others seen.gate touches))) same
           ∙ latest-beside seen.gate touches first is other
           ),
     )

@@ -9,8 +9,8 @@ use Rattle.gate_service.specs.Looks.{told_at_look}
 abbrev pub on : ℕ → ℕ → GateDay
 on gate day = record { gate = gate; day = day }
 
--- gate 7 touches on 2026-01-05, gate 9 in 2099, gate 7 on the next day, and gate 9 again: it is told once, when its first
--- touch is accepted
+-- gate 7 touches on 2026-01-05, gate 9 in 2099, gate 7 on the next day, and gate 9 again: it is told once, when its
+-- first touch is accepted
 pub once : told (on 9 47118 ∷ on 7 20459 ∷ on 9 47118 ∷ on 7 20458 ∷ []) ≡ on 9 47118 ∷ []
 once = refl
 

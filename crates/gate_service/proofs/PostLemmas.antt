@@ -1,5 +1,6 @@
 -- What a whole session leaves of its seat, and how many requests it has at most.
-use Rattle.std.proofs.Common.{◌≡◌, ℕ, ◌+◌, ◌*◌, ◌≤◌, Bool, true, false, List, [], ◌∷◌, ◌++◌, length, Option, Some, None, refl, sym, ap, subst, ◌∙◌, inl, inr, append_assoc, append-nil, arith}
+use Rattle.std.proofs.Common.{◌≡◌, ℕ, ◌+◌, ◌*◌, ◌≤◌, Bool, true, false, List, [], ◌∷◌, ◌++◌, length, Option, Some, None}
+use Rattle.std.proofs.Common.{refl, sym, ap, subst, ◌∙◌, inl, inr, append_assoc, append-nil, arith}
 use mathlib.Core.List.{IsPrefix}
 use Rattle.std.specs.List.{All}
 use Rattle.std.proofs.lemmas.List.{length-append}
@@ -10,6 +11,7 @@ use Rattle.gate_session.specs.declared.answer.Answer.{Answer}
 use Rattle.gate_session.specs.declared.session.End.{End}
 use Rattle.gate_session.specs.declared.session.End.TheVariants as ends
 use Rattle.gate_session.specs.declared.session.Served.{Served}
+use Rattle.gate_session.specs.declared.session.TheConstants.{PIECE_SIZE}
 use Rattle.gate_session.specs.Clerk.{IsRun}
 use Rattle.gate_session.specs.Session.{IsPiece, IsSession, joined, reads_of}
 use Rattle.gate_session.proofs.SessionLemmas.{row_long}
@@ -32,7 +34,8 @@ pub HasGivenMore-none : (given : Option ℕ) → HasGivenMore given given 0
 HasGivenMore-none None = tt
 HasGivenMore-none (Some count) = omega arith
 
-pub HasGivenMore-more : (a b c : Option ℕ) (m n : ℕ) → HasGivenMore a b m → HasGivenMore b c n → HasGivenMore a c (m + n)
+pub HasGivenMore-more : (a b c : Option ℕ) (m n : ℕ) → HasGivenMore a b m → HasGivenMore b c n
+    → HasGivenMore a c (m + n)
 HasGivenMore-more None b c m n first second = tt
 HasGivenMore-more (Some x) None c m n first second = absurd first
 HasGivenMore-more (Some x) (Some y) None m n first second = absurd second
@@ -230,7 +233,8 @@ session-goes_on gives state_of each old new turns served bytes text session =
 -- what each answer keeps, the run keeps
 pub run-keeps : {C X : Type 0} (gives : C → Request → Answer → C → Type 0) (name_of : C → X)
     → ((x y : C) (request : Request) (answer : Answer) → gives x request answer y → name_of y ≡ name_of x)
-    → (old new : C) (handed : List Request) (replies : List Answer) → IsRun gives old handed replies new → name_of new ≡ name_of old
+    → (old new : C) (handed : List Request) (replies : List Answer) → IsRun gives old handed replies new
+    → name_of new ≡ name_of old
 run-keeps gives name_of each old new [] [] run = ap name_of run
 run-keeps gives name_of each old new (request ∷ handed) (answer ∷ replies) run =
     run-keeps gives name_of each run.0 new handed replies run.2 ∙ each old run.0 request answer run.1
@@ -239,11 +243,12 @@ run-keeps gives name_of each old new (request ∷ handed) [] run = absurd run
 
 -- ---- requests
 
-joined_few : (pieces : List (List ℕ)) → All IsPiece pieces → length (joined pieces) ≤ 512 * length pieces
+joined_few : (pieces : List (List ℕ)) → All IsPiece pieces → length (joined pieces) ≤ PIECE_SIZE * length pieces
 joined_few [] sizes = omega arith
 joined_few (piece ∷ pieces) sizes =
     let first : IsPiece piece = All-head IsPiece piece pieces sizes in
-    omega (arith, first.few, joined_few pieces (All-tail IsPiece piece pieces sizes), length-append piece (joined pieces))
+    let few = joined_few pieces (All-tail IsPiece piece pieces sizes) in
+    omega (arith, first.few, few, length-append piece (joined pieces))
 
 reads_more : (end : End) (pieces : ℕ) → pieces ≤ reads_of end pieces
 reads_more ends.Closed pieces = omega arith
@@ -254,9 +259,10 @@ reads_more ends.WriteFault pieces = omega arith
 reads_more ends.Turns pieces = omega arith
 reads_more ends.Memory pieces = omega arith
 
--- a request has a byte at least, and a read gives 512 at most
-pub requests_few : {C : Type 0} (gives : C → Request → Answer → C → Type 0) (old new : C) (turns : ℕ) (served : Served) (bytes text : List ℕ)
-    → IsSession gives old new turns served bytes text → served.requests ≤ 512 * turns
+-- a request has a byte at least, and a read gives no more than a piece has
+pub requests_few : {C : Type 0} (gives : C → Request → Answer → C → Type 0) (old new : C) (turns : ℕ)
+    (served : Served) (bytes text : List ℕ)
+    → IsSession gives old new turns served bytes text → served.requests ≤ PIECE_SIZE * turns
 requests_few gives old new turns served bytes text session =
     omega (
       arith,

@@ -11,8 +11,10 @@ use Rattle.gate_service.specs.declared.tally.Tally.{Tally}
 use Rattle.gate_service.specs.Clerk.{GoesOn, DeskGoesOn}
 use Rattle.gate_service.specs.Post.{HasGivenMore, HasServed}
 use Rattle.gate_service.specs.Tally.{HasCountedIn, HasGrown, requests_of}
-use Rattle.gate_service.proofs.PostLemmas.{GoesOn-same, GoesOn-more, DeskGoesOn-same, DeskGoesOn-more, HasGivenMore-none, HasGivenMore-more}
-use Rattle.gate_service.proofs.TallyLemmas.{HasCountedIn-none, HasCountedIn-more, HasGrown-none, HasGrown-more, HasGrown-within}
+use Rattle.gate_service.proofs.PostLemmas.{GoesOn-same, GoesOn-more, DeskGoesOn-same, DeskGoesOn-more}
+use Rattle.gate_service.proofs.PostLemmas.{HasGivenMore-none, HasGivenMore-more}
+use Rattle.gate_service.proofs.TallyLemmas.{HasCountedIn-none, HasCountedIn-more, HasGrown-none, HasGrown-more}
+use Rattle.gate_service.proofs.TallyLemmas.{HasGrown-within}
 
 -- nobody was served
 pub HasServed-none : (given : Option ℕ) (tally : Tally) (seat : SeatState) (desk : Known)

@@ -1,9 +1,11 @@
 -- What is told of accepted touches that are ahead (docs/FAULTS.md, "A gate that is ahead"; this
 -- project's choice). Lists of touches have the last one first.
-use Rattle.std.specs.Prelude.{◌≡◌, ◌<◌, ℕ, Bool, false, nat_eq, List, [], ◌∷◌, ◌++◌, Option, Some, None, slice_index_or, option_to_list, if◌then◌else◌}
+use Rattle.std.specs.Prelude.{◌≡◌, ◌<◌, ℕ, Bool, false, nat_eq, List, [], ◌∷◌, ◌++◌, Option, Some}
+use Rattle.std.specs.Prelude.{None, slice_index_or, option_to_list, if◌then◌else◌}
 use Rattle.std.specs.List.{list_any}
 use Rattle.gate_service.specs.declared.days.GateDay.{GateDay}
 use Rattle.gate_service.specs.declared.ahead.Ahead.{Ahead}
+use Rattle.gate_service.specs.declared.ahead.TheConstants.{GATES}
 use Rattle.gate_service.specs.Days.{AreDaysOf, ahead_in}
 
 -- the gate is one of these touches'
@@ -28,5 +30,5 @@ told_at earlier touch = told_beside (told earlier) (ahead_in (touch ∷ earlier)
 -- these touches were seen, and what is told of them was told
 pub record StandsFor (ahead : Ahead) (touches : List GateDay) : Type 0 where
   pub days : AreDaysOf ahead.days touches
-  pub told : (gate : ℕ) → gate < 65_536
+  pub told : (gate : ℕ) → gate < GATES
       → slice_index_or ahead.told.items gate false ≡ is_named gate (told touches)

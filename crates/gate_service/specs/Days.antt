@@ -1,8 +1,10 @@
--- Which touch is ahead of those of all other gates, by their fare days (docs/FAULTS.md, "A gate that
--- is ahead"; this project's choice). Lists of touches have the last one first.
-use Rattle.std.specs.Prelude.{◌≡◌, ◌+◌, ℕ, not, nat_eq, nat_lt, List, [], ◌∷◌, Option, Some, None, filter, if◌then◌else◌}
+-- Which touch is ahead of those of all other gates, by their fare days (docs/FAULTS.md, "A gate
+-- that is ahead"; this project's choice). Lists of touches have the last one first.
+use Rattle.std.specs.Prelude.{◌≡◌, ◌+◌, ℕ, not, nat_eq, nat_lt, List, [], ◌∷◌, Option, Some, None}
+use Rattle.std.specs.Prelude.{filter, if◌then◌else◌}
 use Rattle.gate_service.specs.declared.days.GateDay.{GateDay}
 use Rattle.gate_service.specs.declared.days.Days.{Days}
+use Rattle.gate_service.specs.declared.days.TheConstants.{MOST_AHEAD}
 
 -- the later one of two touches, and of one day the first
 abbrev pub later : Option GateDay → GateDay → GateDay
@@ -23,11 +25,12 @@ abbrev pub beside : Option GateDay → List GateDay → Option GateDay
 beside None touches = None
 beside (Some first) touches = latest (of_others first.gate touches)
 
--- a touch is ahead that is more than two days above the latest one of all other gates
+-- a touch is ahead that is above the latest one of all other gates by more than is taken for usual
 abbrev pub ahead_of : Option GateDay → Option GateDay → Option GateDay
 ahead_of None second = None
 ahead_of (Some first) None = None
-ahead_of (Some first) (Some second) = if nat_lt (second.day + 2) first.day then Some first else None
+ahead_of (Some first) (Some second) =
+    if nat_lt (second.day + MOST_AHEAD) first.day then Some first else None
 
 -- the touch that is ahead among these, if there is one
 abbrev pub ahead_in : List GateDay → Option GateDay

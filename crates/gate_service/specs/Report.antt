@@ -22,7 +22,8 @@ tally_line line tally =
 
 -- how many entries the history has; an office whose disk failed is halted
 abbrev pub end_line : Bool → ℕ → List ℕ
-end_line halted entries = told (if halted then codes "halted " else codes "closed ") entries (codes "\n")
+end_line halted entries =
+    told (if halted then codes "halted " else codes "closed ") entries (codes "\n")
 
 -- the lines of these gate lines, one behind the other, with their numbers from this one on
 abbrev pub tally_lines : ℕ → List Tally → List ℕ
@@ -33,8 +34,8 @@ tally_lines line (tally ∷ tallies) = tally_line line tally ++ tally_lines (lin
 abbrev pub report_text : List Tally → Bool → ℕ → List ℕ
 report_text tallies halted entries = tally_lines 1 tallies ++ end_line halted entries
 
--- a writer has all that is told of an office which found so many touches, from the first line to the
--- last, which says whether it is halted
+-- a writer has all that is told of an office which found so many touches, from the first line to
+-- the last, which says whether it is halted
 pub record IsTold (opened : ℕ) (halted : Bool) (before after : Option (List ℕ)) : Type 0 where
   pub tallies : List Tally
   pub entries : ℕ

@@ -1,9 +1,11 @@
 -- How a line's tally grows by its sessions (docs/COMMANDS.md, "The report"; this project's choice).
-use Rattle.std.specs.Prelude.{◌≡◌, ◌==◌, ℕ, ◌+◌, ◌≤◌, Bool, List, length, sum_by, count_by, slice_index}
+use Rattle.std.specs.Prelude.{◌≡◌, ◌==◌, ℕ, ◌+◌, ◌≤◌, Bool, List, length, sum_by, count_by}
+use Rattle.std.specs.Prelude.{slice_index}
 use Rattle.std.specs.List.{All}
 use Rattle.gate_session.specs.declared.session.End.{End}
 use Rattle.gate_session.specs.declared.session.End.TheVariants.{Closed, CutFrame, BadFrame}
-use Rattle.gate_session.specs.declared.session.End.TheVariants.{ReadFault, WriteFault, Turns, Memory}
+use Rattle.gate_session.specs.declared.session.End.TheVariants.{ReadFault, WriteFault, Turns}
+use Rattle.gate_session.specs.declared.session.End.TheVariants.{Memory}
 use Rattle.gate_session.specs.declared.session.Served.{Served}
 use Rattle.gate_service.specs.declared.tally.Tally.{Tally}
 
@@ -39,8 +41,8 @@ pub record IsBelow (most : ℕ) (tally : Tally) : Type 0 where
   pub answers : tally.answers ≤ most
   pub ends : All (λ count. count ≤ most) tally.ends
 
--- by so many connections at most: there are as many more ends as connections, and as many more answers
--- as requests and bad frames together, less at most one for each failed write
+-- by so many connections at most: there are as many more ends as connections, and as many more
+-- answers as requests and bad frames together, less at most one for each failed write
 pub record HasGrown (connections : ℕ) (old new : Tally) : Type 0 where
   pub few : new.connections ≤ old.connections + connections
   pub rises : old.connections ≤ new.connections

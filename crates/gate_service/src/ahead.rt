@@ -1,6 +1,7 @@
 //! Which gate is ahead of all others, by the fare days of the touches that were accepted.
 
 ghost use Rattle.std.specs.Prelude.{◌≡◌, ◌∷◌, [], List, length, IfOk};
+ghost use Rattle.gate_service.specs.declared.ahead.TheConstants.{GATES};
 
 use crate::days::{Days, GateDay};
 use std::alloc::{AllocError, Global};
@@ -14,7 +15,7 @@ pub(crate) struct Ahead {
     days: Days,
     /// For each gate whether it was told.
     told: Vec<bool>,
-    ghost whole: { length told.items ≡ 65_536 },
+    ghost whole: { length told.items ≡ GATES },
 }
 
 impl Ahead {

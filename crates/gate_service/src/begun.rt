@@ -41,8 +41,8 @@ impl Begun {
         self.begun.load(Ordering::Relaxed)
     }
 
-    /// What is to be told of the lines: that some haven't begun though they had time to. It is looked
-    /// at once.
+    /// What is to be told of the lines: that some haven't begun though they had time to. It is
+    /// looked at once.
     pub(crate) fn notice<R: Clock>(&self, rt: &R) -> Option<Notice> {
         if self.looked.load(Ordering::Relaxed) || !self.had_time(rt) {
             return None;

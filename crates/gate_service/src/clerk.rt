@@ -1,6 +1,7 @@
 //! The clerk of a connection: it has the office commit touches, and asks it for balances.
 
 ghost use Rattle.std.specs.Prelude.{◌≡◌};
+ghost use Rattle.gate_session.specs.Answers.{AnswerFits};
 ghost use Rattle.gate_service.specs.Clerk.{clerk_at, HasGiven};
 
 use crate::notice::Watch;
@@ -30,7 +31,8 @@ impl<N: Named, D: Disk, T: Watch> Clerk for OfficeClerk<'_, N, D, T> {
     ghost gives = { λ old request answer new. (new.seat.ghost_name ≡ old.seat.ghost_name)
         × (new.desk.ghost_name ≡ old.desk.ghost_name)
         × HasGiven N.opened (clerk_at old.seat.now old.desk.now)
-        (clerk_at new.seat.now new.desk.now) request answer };
+        (clerk_at new.seat.now new.desk.now) request answer
+        × AnswerFits answer };
 
     fn submit<R: Wait>(&mut self, rt: &R, touch: Touch) -> Answer {
         let watch = self.watch;

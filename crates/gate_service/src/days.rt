@@ -73,7 +73,7 @@ fn later(before: Option<GateDay>, seen: GateDay) -> GateDay
 
 /// Whether a day is above another by more than is taken for usual.
 fn is_ahead(day: u32, other: u32) -> bool
-    ensures { result ≡ nat_lt (other + 2) day }
+    ensures { result ≡ nat_lt (other + MOST_AHEAD) day }
 {
     u64::from(other) + u64::from(MOST_AHEAD) < u64::from(day)
 }

@@ -1,5 +1,6 @@
-//! What is told while a server runs: its disk has failed, its journal is full, or nearly so, fewer of
-//! its lines serve than were asked for, gates wait for a line, a gate is ahead, or how it stands.
+//! What is told while a server runs: its disk has failed, its journal is full, or nearly so, fewer
+//! of its lines serve than were asked for, gates wait for a line, a gate is ahead, or how it
+//! stands.
 
 ghost use Rattle.std.specs.Prelude.{◌≡◌, ◌↔◌, ◌≤◌, IsTrue};
 ghost use Rattle.gate_service.specs.Notice.{IsNearlyFull, notice_of};
@@ -9,8 +10,8 @@ use std::sync::Wait;
 use tap_office::SubmitFault;
 use thiserror::Error;
 
-/// What befalls a server. It prints as the line that is told. A number of entries is how many its history
-/// has.
+/// What befalls a server. It prints as the line that is told. A number of entries is how many its
+/// history has.
 #[derive(Clone, Copy, Debug, PartialEq, Eq, Error)]
 pub enum Notice {
     /// The journal's disk has failed.
@@ -67,7 +68,8 @@ pub trait Watch {
     /// A touch was answered, when the history had so many entries.
     fn answered(&self, entries: u32);
 
-    /// A new touch of this gate was accepted. Its moment is in seconds since 1970-01-01 00:00:00 UTC.
+    /// A new touch of this gate was accepted. Its moment is in seconds since 1970-01-01 00:00:00
+    /// UTC.
     fn accepted<W: Wait>(&self, rt: &W, gate: u16, moment: u32);
 
     /// A touch was refused.

@@ -32,8 +32,8 @@ pub struct Watched {
     pub zone: Option<Zone>,
 }
 
-/// A watch that tells each kind of notice once, on standard error. That all lines are taken is told each
-/// time. It has the lines end once the disk has failed, where that is asked for.
+/// A watch that tells each kind of notice once, on standard error. That all lines are taken is told
+/// each time. It has the lines end once the disk has failed, where that is asked for.
 #[derive(Drop)]
 pub struct Notices<'a, R, L> {
     /// What it tells by.
@@ -70,8 +70,8 @@ struct Around {
 }
 
 impl<'a, R: Clock + Eprint, L: Lines> Notices<'a, R, L> {
-    /// A watch that has told nothing, over lines that can begin now. It takes the memory for what is
-    /// known of each gate.
+    /// A watch that has told nothing, over lines that can begin now. It takes the memory for what
+    /// is known of each gate.
     pub fn new(
         alloc: Global,
         rt: &'a R,

@@ -1,13 +1,12 @@
-//! The posts of a server: each serves the connections of one line, one after the other, at a seat of
-//! the office.
+//! The posts of a server: each serves the connections of one line, one after the other, at a seat
+//! of the office.
 
-ghost use Rattle.std.specs.Prelude.{◌≡◌, ◌<◌, ◌≤◌, ◌*◌, ◌^◌, ℕ, length, slice_index_or};
-ghost use Rattle.std.specs.List.{All};
+ghost use Rattle.std.specs.Prelude.{◌≡◌, ◌<◌, ◌≤◌, ◌*◌, ℕ, length, slice_index_or};
 ghost use Rattle.std.specs.Thread.{IsSync};
 ghost use Rattle.gate_session.specs.Session.{HasCounted};
+ghost use Rattle.gate_session.specs.declared.session.TheConstants.{PIECE_SIZE};
 ghost use Rattle.gate_service.specs.Clerk.{GoesOn, DeskGoesOn};
 ghost use Rattle.gate_service.specs.Post.{HasServed};
-ghost use Rattle.gate_service.specs.Tally.{IsBelow};
 
 use crate::clerk::OfficeClerk;
 use crate::gate_line::GateLine;
@@ -22,7 +21,11 @@ use std::thread::Threads;
 use tap_disk::Disk;
 use tap_office::{Desk, Named, Office, Seat};
 
-/// A line, with the seat and the desk from which its gates are answered, and what came of it so far.
+/// How many reads a session makes at most.
+const TURNS: u32 = 1_000_000;
+
+/// A line, with the seat and the desk from which its gates are answered, and what came of it so
+/// far.
 #[derive(Drop)]
 pub struct Post<L, N: Named> {
     /// The line.
@@ -35,29 +38,31 @@ pub struct Post<L, N: Named> {
     pub tally: Tally,
 }
 
-/// Serves all posts, each in a thread of its own where one can be made, and the others one after the
-/// other. Each serves up to so many connections, by up to so many reads each, 1000000 at most, until
-/// its line has no more, or one of its counts is above 2^62.
+/// What all posts of a server serve from, and how long.
+#[derive(Drop)]
+pub struct Service<'a, N: Named, D: Disk, T> {
+    /// The office, which commits touches and tells balances.
+    pub office: Office<N, D>,
+    /// Who is shown what comes of it.
+    pub watch: &'a T,
+    /// How many connections each post serves at most.
+    pub connections: u64,
+}
+
+/// Serves all posts, each in a thread of its own where one can be made, and the others one after
+/// the other. Each serves up to as many connections as the service says, by a million reads each at
+/// most, until its line has no more, or one of its counts is above 2^62.
 ///
-/// It waits for gates. No post's counts are above 2^62 at first.
+/// It waits for gates.
 pub fn serve_all<
     L: GateLine + Send,
     N: Named + Send + Sync,
     D: Disk + Drop + Send,
     T: Watch + Sync,
     R: Threads + Wait + Sync,
->(
-    rt: &R,
-    alloc: Global,
-    office: &Office<N, D>,
-    watch: &T,
-    posts: &mut [Post<L, N>],
-    connections: u64,
-    turns: u32,
-)
-    requires turns { turns ≤ 1_000_000 }
-    requires below { All (λ post. IsBelow (2 ^ 62) post.tally) posts.old }
-    ensures { (place : ℕ) (other : _) → place < length posts.old → HasServed connections
+>(rt: &R, alloc: Global, service: &Service<'_, N, D, T>, posts: &mut [Post<L, N>])
+    ensures { (place : ℕ) (other : _) → place < length posts.old
+        → HasServed service.now.connections
         (L.given (slice_index_or posts.old place other).line)
         (L.given (slice_index_or posts.new place other).line)
         (slice_index_or posts.old place other).tally (slice_index_or posts.new place other).tally
@@ -71,12 +76,10 @@ pub fn serve_all<
         threads,
         &|_, post: &mut Post<L, N>|
             requires sync { IsSync R.row }
-            requires turns { turns ≤ 1_000_000 }
-            requires below { IsBelow (2 ^ 62) post.now.tally }
-            ensures { HasServed connections (L.given post.entry.now.line)
+            ensures { HasServed service.entry.now.connections (L.given post.entry.now.line)
                 (L.given post.exit.now.line) post.entry.now.tally post.exit.now.tally
                 post.entry.now.seat post.exit.now.seat post.entry.now.desk post.exit.now.desk }
-        { serve_post(rt, alloc, office, watch, post, connections, turns) },
+        { serve_post(rt, alloc, service, post) },
     );
 }
 
@@ -84,15 +87,10 @@ pub fn serve_all<
 fn serve_post<L: GateLine, N: Named, D: Disk, T: Watch, R: Wait>(
     rt: &R,
     alloc: Global,
-    office: &Office<N, D>,
-    watch: &T,
+    service: &Service<'_, N, D, T>,
     post: &mut Post<L, N>,
-    connections: u64,
-    turns: u32,
 )
-    requires turns { turns ≤ 1_000_000 }
-    requires below { IsBelow (2 ^ 62) post.old.tally }
-    ensures { HasServed connections (L.given post.old.line) (L.given post.new.line)
+    ensures { HasServed service.now.connections (L.given post.old.line) (L.given post.new.line)
         post.old.tally post.new.tally post.old.seat post.new.seat post.old.desk post.new.desk }
 {
     let Post {
@@ -101,54 +99,42 @@ fn serve_post<L: GateLine, N: Named, D: Disk, T: Watch, R: Wait>(
         desk,
         tally,
     } = post;
-    watch.begun();
-    for _ in 0..connections {
+    service.watch.begun();
+    for _ in 0..service.connections {
         if !tally.has_room() {
             return;
         }
         let Some((mut reader, mut writer)) = line.connect() else {
             return;
         };
-        watch.connected();
-        let served = serve_connection(
-            rt,
-            alloc,
-            office,
-            watch,
-            seat,
-            desk,
-            &mut reader,
-            &mut writer,
-            turns,
-        );
+        service.watch.connected();
+        let served = serve_connection(rt, alloc, service, seat, desk, &mut reader, &mut writer);
         tally.count(&served);
     }
 }
 
-/// Serves one connection.
+/// Serves one connection, at a seat and a desk of the office.
 fn serve_connection<I: Read, O: Write, N: Named, D: Disk, T: Watch, R: Wait>(
     rt: &R,
     alloc: Global,
-    office: &Office<N, D>,
-    watch: &T,
+    service: &Service<'_, N, D, T>,
     seat: &mut Seat<N>,
     desk: &mut Desk<N>,
     reader: &mut I,
     writer: &mut O,
-    turns: u32,
 ) -> Served
     ensures seat { GoesOn result.requests seat.old seat.new }
     ensures desk { DeskGoesOn result.requests desk.old desk.new }
     ensures counts { HasCounted result.end result.requests result.answers }
-    ensures few { result.requests ≤ 512 * turns }
+    ensures few { result.requests ≤ PIECE_SIZE * TURNS }
 {
     let mut clerk = OfficeClerk {
-        office,
-        watch,
+        office: &service.office,
+        watch: service.watch,
         seat,
         desk,
     };
-    serve_clerk(rt, alloc, &mut clerk, reader, writer, turns)
+    serve_clerk(rt, alloc, &mut clerk, reader, writer)
 }
 
 /// Serves one connection by its clerk, who keeps the same seat and desk.
@@ -158,14 +144,13 @@ fn serve_clerk<I: Read, O: Write, N: Named, D: Disk, T: Watch, R: Wait>(
     clerk: &mut OfficeClerk<'_, N, D, T>,
     reader: &mut I,
     writer: &mut O,
-    turns: u32,
 ) -> Served
     ensures same_seat { clerk.new.seat.ghost_name ≡ clerk.old.seat.ghost_name }
     ensures same_desk { clerk.new.desk.ghost_name ≡ clerk.old.desk.ghost_name }
     ensures seat { GoesOn result.requests clerk.old.seat.now clerk.new.seat.now }
     ensures desk { DeskGoesOn result.requests clerk.old.desk.now clerk.new.desk.now }
     ensures counts { HasCounted result.end result.requests result.answers }
-    ensures few { result.requests ≤ 512 * turns }
+    ensures few { result.requests ≤ PIECE_SIZE * TURNS }
 {
-    serve(rt, alloc, reader, writer, clerk, turns)
+    serve(rt, alloc, reader, writer, clerk, TURNS)
 }

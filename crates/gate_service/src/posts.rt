@@ -1,8 +1,9 @@
-//! The posts of a server, as they are made before its first connection and taken apart behind its last.
+//! The posts of a server, as they are made before its first connection and taken apart behind its
+//! last.
 
-ghost use Rattle.std.specs.Prelude.{◌≡◌, ◌≤◌, ◌^◌, [], length, map, reverse, vec_capacity, IfOk};
+ghost use Rattle.std.specs.Prelude.{◌≡◌, ◌≤◌, [], length, map, reverse, vec_capacity, IfOk};
 ghost use Rattle.std.specs.List.{All};
-ghost use Rattle.gate_service.specs.Tally.{IsBelow};
+ghost use Rattle.gate_service.specs.Tally.{IsEmpty};
 
 use crate::post::Post;
 use crate::tally::Tally;
@@ -19,7 +20,7 @@ pub fn make_posts<'a, N: Named, R: Clock + Eprint, L: OpenListener>(
     seats: Vec<Seat<N>>,
     desks: Vec<Desk<N>>,
 ) -> Result<Vec<Post<TcpLine<'a, R, L>, N>>, AllocError>
-    ensures { IfOk result (λ posts. All (λ post. IsBelow (2 ^ 62) post.tally) posts.items) }
+    ensures { IfOk result (λ posts. All (λ post. IsEmpty post.tally) posts.items) }
 {
     let mut posts = Vec::with_capacity(alloc, seats.len())?;
     for (seat, desk) in seats.into_iter().zip(desks) {
@@ -30,7 +31,7 @@ pub fn make_posts<'a, N: Named, R: Clock + Eprint, L: OpenListener>(
 
 /// A post whose line has served nobody yet.
 pub fn new_post<L, N: Named>(line: L, seat: Seat<N>, desk: Desk<N>) -> Post<L, N>
-    ensures { IsBelow (2 ^ 62) result.tally }
+    ensures { IsEmpty result.tally }
 {
     Post {
         line,

@@ -2,7 +2,8 @@
 
 ghost use Rattle.std.specs.Prelude.{◌≡◌, OnOk};
 ghost use Rattle.std.specs.Io.KnownBytes.{Appends};
-ghost use Rattle.gate_service.specs.Report.{opened_line, tally_line, tally_lines, end_line, report_text};
+ghost use Rattle.gate_service.specs.Report.{opened_line, tally_line, tally_lines, end_line};
+ghost use Rattle.gate_service.specs.Report.{report_text};
 
 use crate::tally::Tally;
 use std::io;

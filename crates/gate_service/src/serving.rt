@@ -1,16 +1,14 @@
 //! An office that is served to its end: all its posts at once, then its closing and the report.
 
-ghost use Rattle.std.specs.Prelude.{◌≡◌, ◌≤◌, ◌^◌, [], length, vec_capacity, IfOk};
-ghost use Rattle.std.specs.List.{All};
+ghost use Rattle.std.specs.Prelude.{◌≡◌, ◌≤◌, [], length, vec_capacity, IfOk};
 ghost use Rattle.std.specs.Thread.{IsSync};
 ghost use Rattle.gate_service.specs.Report.{IsTold};
-ghost use Rattle.gate_service.specs.Tally.{IsBelow};
 
 use crate::beside::{Over, look_around};
 use crate::fault::ServeFault;
 use crate::gate_line::GateLine;
 use crate::notice::Watch;
-use crate::post::{Post, serve_all};
+use crate::post::{Post, Service, serve_all};
 use crate::posts::{seats_of, tallies_of};
 use crate::report::{write_opened, write_report};
 use crate::tally::Tally;
@@ -22,15 +20,12 @@ use std::thread::Threads;
 use tap_disk::Disk;
 use tap_office::{Named, Office, Seat};
 
-/// How many reads a session makes at most.
-const TURNS: u32 = 1_000_000;
-
-/// An office with its posts, and with the memory that its end needs.
+/// An office with the posts that serve from it, and with the memory that its end needs.
 #[derive(Drop)]
-struct Ready<L, N: Named, D: Disk> {
-    /// The office.
-    office: Office<N, D>,
-    /// Its posts.
+struct Ready<'a, L, N: Named, D: Disk, T> {
+    /// What the posts serve from.
+    service: Service<'a, N, D, T>,
+    /// The posts.
     posts: Vec<Post<L, N>>,
     /// Where the seats are put, at the end.
     seats: Vec<Seat<N>>,
@@ -52,10 +47,10 @@ struct Ended {
 /// Serves an office's posts, closes it, and writes the report. From the first connection on it
 /// takes no memory of its own. It answers whether the journal's disk has failed.
 ///
-/// Each post serves up to so many connections, until its line has no more. Standard error may be
-/// closed: the line that tells of the listening is lost then. At Memory no gate was served. At Write
-/// the first line or the report wasn't written, and at Close the office couldn't be closed: then the
-/// journal has each touch that was answered.
+/// Each post serves up to as many connections as the service says, until its line has no more.
+/// Standard error may be closed: the line that tells of the listening is lost then. At Memory no
+/// gate was served. At Write the first line or the report wasn't written, and at Close the office
+/// couldn't be closed: then the journal has each touch that was answered.
 pub fn serve_office<
     L: GateLine + Drop + Send,
     N: Named + Send + Sync,
@@ -65,32 +60,29 @@ pub fn serve_office<
     R: AllocGlobal + Threads + Wait + Sync + Eprint,
 >(
     rt: &R,
-    office: Office<N, D>,
-    watch: &T,
+    service: Service<'_, N, D, T>,
     posts: Vec<Post<L, N>>,
     listening: &str,
     output: &mut W,
-    connections: u64,
 ) -> Result<bool, ServeFault>
-    requires { All (λ post. IsBelow (2 ^ 62) post.tally) posts.items }
     ensures { IfOk result (λ halted. IsTold (length N.opened.recovered) halted
         (W.contents output.old) (W.contents output.new)) }
 {
     let alloc = rt.alloc();
-    let ready = ready_for(alloc, office, posts)?;
+    let ready = ready_for(alloc, service, posts)?;
     let _ = rt.eprintln(listening);
-    write_opened(output, ready.office.opened())?;
-    let ended = serve_watched(rt, alloc, ready, watch, connections)?;
+    write_opened(output, ready.service.office.opened())?;
+    let ended = serve_watched(rt, alloc, ready)?;
     write_report(output, &ended.tallies, ended.halted, ended.entries)?;
     Ok(ended.halted)
 }
 
 /// The office with the memory that its end needs, for a seat and a tally of each post.
-fn ready_for<L: Drop, N: Named, D: Disk + Drop>(
+fn ready_for<'a, L: Drop, N: Named, D: Disk + Drop, T>(
     alloc: Global,
-    office: Office<N, D>,
+    service: Service<'a, N, D, T>,
     posts: Vec<Post<L, N>>,
-) -> Result<Ready<L, N, D>, AllocError>
+) -> Result<Ready<'a, L, N, D, T>, AllocError>
     ensures posts { IfOk result (λ ready. ready.posts.items ≡ posts.items) }
     ensures no_seats { IfOk result (λ ready. ready.seats.items ≡ []) }
     ensures no_tallies { IfOk result (λ ready. ready.tallies.items ≡ []) }
@@ -100,7 +92,7 @@ fn ready_for<L: Drop, N: Named, D: Disk + Drop>(
     let seats = Vec::with_capacity(alloc, posts.len())?;
     let tallies = Vec::with_capacity(alloc, posts.len())?;
     Ok(Ready {
-        office,
+        service,
         posts,
         seats,
         tallies,
@@ -115,32 +107,25 @@ fn serve_watched<
     D: Disk + Drop + Send,
     T: Watch + Sync,
     R: Threads + Wait + Sync,
->(
-    rt: &R,
-    alloc: Global,
-    ready: Ready<L, N, D>,
-    watch: &T,
-    connections: u64,
-) -> Result<Ended, ServeFault>
-    requires below { All (λ post. IsBelow (2 ^ 62) post.tally) ready.posts.items }
+>(rt: &R, alloc: Global, ready: Ready<'_, L, N, D, T>) -> Result<Ended, ServeFault>
     requires no_seats { ready.seats.items ≡ [] }
     requires no_tallies { ready.tallies.items ≡ [] }
     requires seats { length ready.posts.items ≤ vec_capacity ready.seats }
     requires tallies { length ready.posts.items ≤ vec_capacity ready.tallies }
 {
     let over = Over::new();
+    let watch = ready.service.watch;
     // Where no thread can be made the first one runs last, and ends at once.
     let (_, ended) = thread::join(
         rt,
         || look_around(rt, watch, &over),
         ||
             requires sync { IsSync R.row }
-            requires below { All (λ post. IsBelow (2 ^ 62) post.tally) ready.posts.items }
             requires no_seats { ready.seats.items ≡ [] }
             requires no_tallies { ready.tallies.items ≡ [] }
             requires seats { length ready.posts.items ≤ vec_capacity ready.seats }
             requires tallies { length ready.posts.items ≤ vec_capacity ready.tallies }
-        { serve_ready(rt, alloc, ready, watch, connections, &over) },
+        { serve_ready(rt, alloc, ready, &over) },
     );
     ended
 }
@@ -153,39 +138,23 @@ fn serve_ready<
     D: Disk + Drop + Send,
     T: Watch + Sync,
     R: Threads + Wait + Sync,
->(
-    rt: &R,
-    alloc: Global,
-    ready: Ready<L, N, D>,
-    watch: &T,
-    connections: u64,
-    over: &Over,
-) -> Result<Ended, ServeFault>
-    requires below { All (λ post. IsBelow (2 ^ 62) post.tally) ready.posts.items }
+>(rt: &R, alloc: Global, ready: Ready<'_, L, N, D, T>, over: &Over) -> Result<Ended, ServeFault>
     requires no_seats { ready.seats.items ≡ [] }
     requires no_tallies { ready.tallies.items ≡ [] }
     requires seats { length ready.posts.items ≤ vec_capacity ready.seats }
     requires tallies { length ready.posts.items ≤ vec_capacity ready.tallies }
 {
     let Ready {
-        office,
+        service,
         posts,
         seats,
         tallies,
     } = ready;
     let mut posts = posts;
-    serve_all(
-        rt,
-        alloc,
-        &office,
-        watch,
-        posts.as_mut_slice(),
-        connections,
-        TURNS,
-    );
+    serve_all(rt, alloc, &service, posts.as_mut_slice());
     over.set();
     let tallies = tallies_of(posts.as_slice(), tallies);
-    let (halted, entries) = close_office(rt, office, seats_of(posts, seats))?;
+    let (halted, entries) = close_office(rt, service.office, seats_of(posts, seats))?;
     Ok(Ended {
         tallies,
         halted,

@@ -1,5 +1,5 @@
-//! What a line's sessions came to: how many there were, what was asked and answered in them, and how
-//! they ended.
+//! What a line's sessions came to: how many there were, what was asked and answered in them, and
+//! how they ended.
 
 ghost use Rattle.std.specs.Prelude.{◌≡◌, ◌<◌, ◌+◌, ◌^◌, ◌∷◌, [], ℕ, IsTrue};
 ghost use Rattle.gate_session.specs.Session.{HasCounted};
@@ -38,7 +38,7 @@ impl Tally {
 
     /// Whether each count is so low that a session can be counted: at most 2^62.
     pub(crate) fn has_room(&self) -> bool
-        ensures { IsTrue result → IsBelow (2 ^ 62) self.now }
+        ensures { IsTrue result → IsBelow MOST self.now }
     {
         self.connections <= MOST
             && self.requests <= MOST

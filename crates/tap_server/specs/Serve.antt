@@ -1,13 +1,14 @@
 -- Why `serve` ended before its report (docs/FAULTS.md, "Faults"; this project's choice).
 use Rattle.gate_service.specs.declared.fault.ServeFault.{ServeFault}
 use Rattle.gate_service.specs.declared.fault.ServeFault.TheVariants as serves
-use Rattle.line_replay.specs.declared.fault.RunFault.TheVariants as runs
+use Rattle.text_io.specs.declared.fault.RunFault.TheVariants as runs
 use Rattle.tap_office.specs.declared.fault.CloseCause.TheVariants as closes
 use Rattle.table_commands.specs.declared.fault.TrialFault.TheVariants as trials
 use Rattle.journal_commands.specs.declared.fault.CommandFault.{CommandFault}
 use Rattle.journal_commands.specs.declared.fault.CommandFault.TheVariants as faults
 
--- want of memory, and a write that failed, are faults of the run; an office that wasn't closed is told by its cause
+-- want of memory, and a write that failed, are faults of the run; an office that wasn't closed is
+-- told by its cause
 abbrev pub serve_fault : ServeFault → CommandFault
 serve_fault serves.Memory = faults.Trial (trials.Run runs.Memory)
 serve_fault serves.Write = faults.Trial (trials.Run runs.Write)

@@ -10,8 +10,8 @@ use tap_disk::Device;
 /// The longest text of an error that is told, in bytes.
 const TEXT_LIMIT: usize = 128;
 
-/// The number of the first error of the system on the journal's disk, and 0 before it. A disk that has
-/// failed may fail again without asking the system: so later ones don't count.
+/// The number of the first error of the system on the journal's disk, and 0 before it. A disk that
+/// has failed may fail again without asking the system: so later ones don't count.
 #[derive(Drop)]
 pub(crate) struct Failure {
     number: AtomicI32,
@@ -38,8 +38,8 @@ impl Failure {
         }
     }
 
-    /// The answer of a call on the disk, whose error is noted where it is the first one. It is called
-    /// directly behind the call, on its thread.
+    /// The answer of a call on the disk, whose error is noted where it is the first one. It is
+    /// called directly behind the call, on its thread.
     pub(crate) fn noted<T: Drop>(&self, answer: Result<T, Device>) -> Result<T, Device>
         ensures { result ≡ answer }
     {

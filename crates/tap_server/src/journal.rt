@@ -15,7 +15,7 @@ use std::thread;
 use std::time::{Clock, Duration};
 use table_commands::{Detail, Refusal};
 use tap_disk::FileDisk;
-use tap_journal::JournalFault;
+use tap_journal::{DIGEST_SIZE, JournalFault};
 
 /// How many seconds a server on standby waits between two tries.
 const PAUSE: u64 = 1;
@@ -58,12 +58,12 @@ impl<R: AllocGlobal + Files<File = File> + Clock + Eprint> JournalLock<FileDisk>
     }
 }
 
-/// The disk of the journal's file. Where the file is empty, and the server isn't strict, a journal of no
-/// touches is made there, for the first table of this digest, and told of.
+/// The disk of the journal's file. Where the file is empty, and the server isn't strict, a journal
+/// of no touches is made there, for the first table of this digest, and told of.
 pub(crate) fn journal_disk<'a, R: AllocGlobal + Files<File = File> + Clock + Eprint>(
     rt: &R,
     failure: &'a Failure,
-    digest: &[u8; 32],
+    digest: &[u8; DIGEST_SIZE],
     asked: &Serve<'_>,
 ) -> Result<NotedDisk<'a, FileDisk>, CommandFault> {
     let mut file = JournalPath {
@@ -78,13 +78,13 @@ pub(crate) fn journal_disk<'a, R: AllocGlobal + Files<File = File> + Clock + Epr
     }
 }
 
-/// This disk, with a journal where it was empty. A file on which the making failed is removed, if it can
-/// be, while its lock is held.
+/// This disk, with a journal where it was empty. A file on which the making failed is removed, if
+/// it can be, while its lock is held.
 fn made_disk<'a, R: AllocGlobal + Files<File = File> + Eprint>(
     rt: &R,
     disk: NotedDisk<'a, FileDisk>,
     failure: &Failure,
-    digest: &[u8; 32],
+    digest: &[u8; DIGEST_SIZE],
     asked: &Serve<'_>,
 ) -> Result<NotedDisk<'a, FileDisk>, CommandFault> {
     match prepare(disk, digest, asked) {

@@ -10,11 +10,13 @@ mod noted;
 mod server;
 mod standard;
 mod station_line;
+mod system;
 mod watch;
 
 use crate::journals::{balances, history, migrate, verify};
 use crate::server::serve_gates;
 use crate::standard::standard_files;
+use crate::system::System;
 use command_line::{Arguments, Check, arguments_of};
 use journal_commands::{CommandFault, Output, ended_by, tell_command_fault};
 use std::fs::File;
@@ -23,9 +25,6 @@ use std::io::Write;
 use std::net::{Net, TcpListener, TcpStream};
 use std::process::ExitCode;
 use std::rt::{Env, Files};
-use std::sync::Wait;
-use std::thread::Threads;
-use std::time::Clock;
 use table_commands::{SystemFiles, check_file, replay_input, tell_changes, tell_fare, words_of};
 
 fn main(rt: HostRuntime) -> io::Result<ExitCode> {
@@ -35,20 +34,10 @@ fn main(rt: HostRuntime) -> io::Result<ExitCode> {
     }
 }
 
-/// Does what the command line asks for, and answers the status. What standard output refuses is told
-/// with its reason, and nothing is told where nobody reads it any more.
+/// Does what the command line asks for, and answers the status. What standard output refuses is
+/// told with its reason, and nothing is told where nobody reads it any more.
 fn run<
-    R: AllocGlobal
-        + Env
-        + Files<File = File>
-        + Input
-        + Print
-        + Eprint
-        + Net<Listener = TcpListener, Stream = TcpStream>
-        + Clock
-        + Threads
-        + Wait
-        + Sync,
+    R: System + Env + Input + Files<File = File> + Net<Listener = TcpListener, Stream = TcpStream>,
 >(rt: &R) -> Result<ExitCode, CommandFault> {
     let mut output = Output::over(io::writer(rt));
     match done(rt, &mut output) {
@@ -59,17 +48,7 @@ fn run<
 
 /// Does what the command line asks for, with standard output, and answers the status.
 fn done<
-    R: AllocGlobal
-        + Env
-        + Files<File = File>
-        + Input
-        + Print
-        + Eprint
-        + Net<Listener = TcpListener, Stream = TcpStream>
-        + Clock
-        + Threads
-        + Wait
-        + Sync,
+    R: System + Env + Input + Files<File = File> + Net<Listener = TcpListener, Stream = TcpStream>,
     W: Write,
 >(rt: &R, output: &mut W) -> Result<ExitCode, CommandFault> {
     let words = words_of(rt)?;

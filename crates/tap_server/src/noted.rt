@@ -7,8 +7,8 @@ use tap_disk::{Device, Disk};
 
 /// A disk as it is, whose first failed call is noted with the error of the system.
 ///
-/// It is that disk: each of its answers, its content and what a crash may leave of it are those of the
-/// disk inside.
+/// It is that disk: each of its answers, its content and what a crash may leave of it are those of
+/// the disk inside.
 pub(crate) struct NotedDisk<'a, D: Disk> {
     disk: D,
     failure: &'a Failure,

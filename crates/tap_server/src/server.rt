@@ -4,23 +4,21 @@ ghost use Rattle.tap_office.specs.Name.{IsNameOf};
 ghost use Rattle.fare_schedule.specs.Schedule.{revisions_of};
 ghost use Rattle.tap_office.specs.Opening.{opened_of};
 ghost use Rattle.command_line.specs.Arguments.{IsServeAllowed};
-ghost use Rattle.std.specs.Prelude.{◌≡◌, ◌^◌, []};
-ghost use Rattle.std.specs.List.{All};
-ghost use Rattle.gate_service.specs.Tally.{IsBelow};
+ghost use Rattle.std.specs.Prelude.{◌≡◌, []};
 ghost use Rattle.tap_server.specs.Serve.{serve_fault};
 
 use crate::failure::Failure;
 use crate::journal::{device_fault, journal_disk};
 use crate::noted::NotedDisk;
 use crate::station_line::station_posts;
+use crate::system::System;
 use crate::watch::{FailureWatch, Watching};
 use command_line::Serve;
 use fare_schedule::Schedule;
 use gate_service::{
-    GateLine, Lines, Notices, Post, ServeFault, TcpLines, Watch, Watched, serve_office,
+    GateLine, Lines, Notices, Post, ServeFault, Service, TcpLines, Watch, Watched, serve_office,
 };
 use journal_commands::{CommandFault, OpenedBy, explained, listen_fault, look_at_end};
-use line_replay::RunFault;
 use money_time::Zone;
 use std::alloc::Global;
 use std::fs::File;
@@ -30,30 +28,45 @@ use std::marker::Brand;
 use std::net::{Net, TcpListener, TcpStream};
 use std::process::ExitCode;
 use std::rt::Files;
-use std::sync::Wait;
-use std::thread::Threads;
-use std::time::{Clock, Duration};
+use std::time::Duration;
 use table_commands::{Detail, SystemFiles, first_table, schedule_of};
 use tap_disk::{Disk, FileDisk};
 use tap_office::{CloseCause, Desk, Named, Office, Opening, Seat};
 use tcp_line::TcpLine;
+use text_io::RunFault;
 
-/// Opens the office of a journal, serves gates until all lines are done, closes the office and writes
-/// the report. The tables are looked at before the journal, which is made where its file is empty, and
-/// open slots behind its end are told of.
+/// An office that is open, with a seat and a desk for each of its lines.
+#[derive(Drop)]
+struct OpenOffice<N: Named, D: Disk> {
+    /// The office.
+    office: Office<N, D>,
+    /// What touches are committed from.
+    seats: Vec<Seat<N>>,
+    /// What balances are asked for from.
+    desks: Vec<Desk<N>>,
+}
+
+/// How an office is served, and what is told of it.
+#[derive(Clone, Copy)]
+struct Terms<'a> {
+    /// What is watched over.
+    watching: Watching<'a>,
+    /// The line that tells where gates can connect.
+    listening: &'a str,
+    /// How many connections each line serves.
+    connections: u64,
+    /// For how long a gate is waited for, where one is ever given up.
+    idle: Option<Duration>,
+}
+
+/// Opens the office of a journal, serves gates until all lines are done, closes the office and
+/// writes the report. The tables are looked at before the journal, which is made where its file is
+/// empty, and open slots behind its end are told of.
 ///
-/// A server that is strict makes no journal, and serves none with more than one open slot behind its
-/// end. One on standby waits for a journal that another server has.
+/// A server that is strict makes no journal, and serves none with more than one open slot behind
+/// its end. One on standby waits for a journal that another server has.
 pub(crate) fn serve_gates<
-    R: AllocGlobal
-        + Files<File = File>
-        + Net<Listener = TcpListener, Stream = TcpStream>
-        + Clock
-        + Threads
-        + Wait
-        + Sync
-        + Print
-        + Eprint,
+    R: System + Files<File = File> + Net<Listener = TcpListener, Stream = TcpStream>,
 >(rt: &R, asked: &Serve<'_>) -> Result<ExitCode, CommandFault>
     requires { IsServeAllowed asked.now }
 {
@@ -70,15 +83,7 @@ pub(crate) fn serve_gates<
 /// Opens the office of the journal on a disk, by a schedule without a revision, and serves it.
 fn serve_journal<
     'a,
-    R: AllocGlobal
-        + Files<File = File>
-        + Net<Listener = TcpListener, Stream = TcpStream>
-        + Clock
-        + Threads
-        + Wait
-        + Sync
-        + Print
-        + Eprint,
+    R: System + Files<File = File> + Net<Listener = TcpListener, Stream = TcpStream>,
 >(
     rt: &R,
     disk: NotedDisk<'a, FileDisk>,
@@ -115,15 +120,7 @@ fn unopened_fault<R: AllocGlobal + Files>(
 fn serve_opening<
     N: Named + Send + Sync,
     D: Disk + Drop + Send,
-    R: AllocGlobal
-        + Files<File = File>
-        + Net<Listener = TcpListener, Stream = TcpStream>
-        + Clock
-        + Threads
-        + Wait
-        + Sync
-        + Print
-        + Eprint,
+    R: System + Files<File = File> + Net<Listener = TcpListener, Stream = TcpStream>,
 >(
     rt: &R,
     opening: Opening<D>,
@@ -140,36 +137,29 @@ fn serve_opening<
         Ok(made) => made,
         Err(fault) => return Err(fault.cause.into()),
     };
+    let open = OpenOffice {
+        office,
+        seats,
+        desks,
+    };
     look_at_end(rt, &SystemFiles::new(rt), asked.journal, asked.strict)?;
     let watching = Watching {
-        watched: watched_by(asked, capacity, office.opened(), zone),
+        watched: watched_by(asked, capacity, open.office.opened(), zone),
         failure,
+        path: asked.journal,
     };
     let listener = match TcpListener::bind(rt, asked.listen) {
         Ok(listener) => listener,
         Err(error) => return Err(listen_fault(alloc, asked.listen, &error)),
     };
-    let halted = serve_listener(rt, office, seats, desks, &listener, watching, asked)?;
+    let halted = serve_listener(rt, open, &listener, watching, asked)?;
     Ok(status_of(halted))
 }
 
 /// Serves an office to the gates of a listener, and answers whether the journal's disk has failed.
-fn serve_listener<
-    N: Named + Send + Sync,
-    D: Disk + Drop + Send,
-    R: AllocGlobal
-        + Net<Listener = TcpListener, Stream = TcpStream>
-        + Clock
-        + Threads
-        + Wait
-        + Sync
-        + Print
-        + Eprint,
->(
+fn serve_listener<N: Named + Send + Sync, D: Disk + Drop + Send, R: System>(
     rt: &R,
-    office: Office<N, D>,
-    seats: Vec<Seat<N>>,
-    desks: Vec<Desk<N>>,
+    open: OpenOffice<N, D>,
     listener: &TcpListener,
     watching: Watching<'_>,
     asked: &Serve<'_>,
@@ -177,80 +167,36 @@ fn serve_listener<
     let alloc = rt.alloc();
     let listening = listening_line(alloc, listener)?;
     let mut output = output_of(alloc, io::writer(rt))?;
-    let served = serve_lines(
-        rt,
-        office,
-        seats,
-        desks,
-        listener,
+    let lines = TcpLines::new(listener);
+    let terms = Terms {
         watching,
-        asked,
-        &listening,
-        &mut output,
-    );
-    match served {
+        listening: &listening,
+        connections: connections_of(asked),
+        idle: idle_of(asked),
+    };
+    match serve_over(rt, open, &lines, terms, &mut output) {
         Ok(halted) => Ok(halted),
         Err(fault) => Err(fault_of(fault)),
     }
 }
 
-/// Serves an office to the lines of a listener, and writes the report. It answers whether the
-/// journal's disk has failed.
-fn serve_lines<
-    N: Named + Send + Sync,
-    D: Disk + Drop + Send,
-    R: AllocGlobal
-        + Net<Listener = TcpListener, Stream = TcpStream>
-        + Clock
-        + Threads
-        + Wait
-        + Sync
-        + Eprint,
-    W: Write,
->(
-    rt: &R,
-    office: Office<N, D>,
-    seats: Vec<Seat<N>>,
-    desks: Vec<Desk<N>>,
-    listener: &TcpListener,
-    watching: Watching<'_>,
-    asked: &Serve<'_>,
-    listening: &str,
-    output: &mut W,
-) -> Result<bool, ServeFault> {
-    let lines = TcpLines::new(listener);
-    serve_over(
-        rt, office, seats, desks, &lines, watching, asked, listening, output,
-    )
-}
-
-/// The same over these lines: they and the watch over them have one lifetime.
-fn serve_over<
-    'a,
-    N: Named + Send + Sync,
-    D: Disk + Drop + Send,
-    R: AllocGlobal
-        + Net<Listener = TcpListener, Stream = TcpStream>
-        + Clock
-        + Threads
-        + Wait
-        + Sync
-        + Eprint,
-    W: Write,
->(
+/// Serves an office over these lines, and writes the report. It answers whether the journal's disk
+/// has failed. The lines and the watch over them have one lifetime.
+fn serve_over<'a, N: Named + Send + Sync, D: Disk + Drop + Send, R: System, W: Write>(
     rt: &'a R,
-    office: Office<N, D>,
-    seats: Vec<Seat<N>>,
-    desks: Vec<Desk<N>>,
+    open: OpenOffice<N, D>,
     lines: &'a TcpLines<'a>,
-    watching: Watching<'_>,
-    asked: &Serve<'_>,
-    listening: &str,
+    terms: Terms<'_>,
     output: &mut W,
 ) -> Result<bool, ServeFault> {
-    let line = TcpLine::new(rt, lines, &lines.short, &lines.ended, idle_of(asked));
+    let OpenOffice {
+        office,
+        seats,
+        desks,
+    } = open;
+    let line = TcpLine::new(rt, lines, &lines.short, &lines.ended, terms.idle);
     let posts = station_posts(rt.alloc(), &line, seats, desks)?;
-    serve_told(rt, office, posts, lines, watching, asked, listening, output)
+    serve_told(rt, office, posts, lines, terms, output)
 }
 
 /// The same over these posts, with the notices about their lines.
@@ -259,31 +205,18 @@ fn serve_told<
     K: Lines + Sync,
     N: Named + Send + Sync,
     D: Disk + Drop + Send,
-    R: AllocGlobal + Clock + Threads + Wait + Sync + Eprint,
+    R: System,
     W: Write,
 >(
     rt: &R,
     office: Office<N, D>,
     posts: Vec<Post<L, N>>,
     lines: &K,
-    watching: Watching<'_>,
-    asked: &Serve<'_>,
-    listening: &str,
+    terms: Terms<'_>,
     output: &mut W,
-) -> Result<bool, ServeFault>
-    requires { All (λ post. IsBelow (2 ^ 62) post.tally) posts.items }
-{
-    let watch = Notices::new(rt.alloc(), rt, lines, watching.watched)?;
-    serve_posts(
-        rt,
-        office,
-        posts,
-        &watch,
-        watching.failure,
-        asked,
-        listening,
-        output,
-    )
+) -> Result<bool, ServeFault> {
+    let watch = Notices::new(rt.alloc(), rt, lines, terms.watching.watched)?;
+    serve_posts(rt, office, posts, &watch, terms, output)
 }
 
 /// The same over these posts, with what the system answered behind the notice of a failed disk.
@@ -292,23 +225,23 @@ fn serve_posts<
     N: Named + Send + Sync,
     D: Disk + Drop + Send,
     T: Watch + Sync,
-    R: AllocGlobal + Threads + Wait + Sync + Eprint,
+    R: System,
     W: Write,
 >(
     rt: &R,
     office: Office<N, D>,
     posts: Vec<Post<L, N>>,
     watch: &T,
-    failure: &Failure,
-    asked: &Serve<'_>,
-    listening: &str,
+    terms: Terms<'_>,
     output: &mut W,
-) -> Result<bool, ServeFault>
-    requires { All (λ post. IsBelow (2 ^ 62) post.tally) posts.items }
-{
-    let watch = FailureWatch::new(rt, watch, failure, asked.journal);
-    let connections = connections_of(asked);
-    serve_office(rt, office, &watch, posts, listening, output, connections)
+) -> Result<bool, ServeFault> {
+    let watch = FailureWatch::new(rt, watch, terms.watching);
+    let service = Service {
+        office,
+        watch: &watch,
+        connections: terms.connections,
+    };
+    serve_office(rt, service, posts, terms.listening, output)
 }
 
 /// The command's fault where serving has failed: for want of memory and a failed write it is the

@@ -1,8 +1,8 @@
 //! The program's lines: each of all its loans for one lifetime.
 
-ghost use Rattle.std.specs.Prelude.{◌^◌, IfOk};
+ghost use Rattle.std.specs.Prelude.{IfOk};
 ghost use Rattle.std.specs.List.{All};
-ghost use Rattle.gate_service.specs.Tally.{IsBelow};
+ghost use Rattle.gate_service.specs.Tally.{IsEmpty};
 
 use gate_service::{GateLine, Post, TcpLines, new_post};
 use std::alloc::{AllocError, Global};
@@ -42,7 +42,7 @@ pub(crate) fn station_posts<'a, N: Named, R: Clock + Eprint>(
     seats: Vec<Seat<N>>,
     desks: Vec<Desk<N>>,
 ) -> Result<Vec<Post<StationLine<'a, R>, N>>, AllocError>
-    ensures { IfOk result (λ posts. All (λ post. IsBelow (2 ^ 62) post.tally) posts.items) }
+    ensures { IfOk result (λ posts. All (λ post. IsEmpty post.tally) posts.items) }
 {
     let mut posts = Vec::with_capacity(alloc, seats.len())?;
     for (seat, desk) in seats.into_iter().zip(desks) {

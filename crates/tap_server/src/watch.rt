@@ -7,13 +7,15 @@ use std::sync::atomic::{AtomicBool, Ordering};
 use tap_office::SubmitFault;
 use tcp_line::Unhindered;
 
-/// What is watched over at a server, and where the answer of the system is noted once its disk fails.
+/// What is watched over at a server, and what is told of the system's answer once its disk fails.
 #[derive(Clone, Copy)]
 pub(crate) struct Watching<'a> {
     /// What is watched over.
     pub(crate) watched: Watched,
     /// What the system answered.
     pub(crate) failure: &'a Failure,
+    /// The path of the journal.
+    pub(crate) path: &'a str,
 }
 
 /// A watch that tells what another one does, and behind the notice of a failed disk what the system
@@ -33,24 +35,19 @@ pub(crate) struct FailureWatch<'a, R, T> {
 }
 
 impl<'a, R: Eprint, T: Watch> FailureWatch<'a, R, T> {
-    /// A watch over a server on the journal of this path, that has told nothing.
-    pub(crate) fn new(
-        rt: &'a R,
-        watch: &'a T,
-        failure: &'a Failure,
-        path: &'a str,
-    ) -> FailureWatch<'a, R, T> {
+    /// A watch that has told nothing.
+    pub(crate) fn new(rt: &'a R, watch: &'a T, watching: Watching<'a>) -> FailureWatch<'a, R, T> {
         FailureWatch {
             rt,
             watch,
-            failure,
-            path,
+            failure: watching.failure,
+            path: watching.path,
             told: AtomicBool::new(false),
         }
     }
 
-    /// Tells that the disk has failed, and what the system answered: once, and both by the same line,
-    /// so that they stand one behind the other.
+    /// Tells that the disk has failed, and what the system answered: once, and both by the same
+    /// line, so that they stand one behind the other.
     fn tell_halted(&self) {
         if self.told.swap(true, Ordering::SeqCst) {
             return;

@@ -121,8 +121,8 @@ fn new_ends() -> Ends {
     }
 }
 
-/// What is watched over: so many lines that end where the disk fails, a journal for ten touches with none,
-/// no reports, and no zone.
+/// What is watched over: so many lines that end where the disk fails, a journal for ten touches
+/// with none, no reports, and no zone.
 fn watched(asked: u32) -> Watched {
     Watched {
         ends: true,

@@ -1,15 +1,13 @@
 //! What no clause says of serving lines: that each connection is served, each answer is sent before
 //! the next request is waited for, and each session is counted by its end.
-ghost use Rattle.std.specs.Prelude.{◌≡◌, ◌^◌, IfOk};
-ghost use Rattle.std.specs.List.{All};
+
 ghost use Rattle.tap_office.specs.Name.{IsNameOf};
 ghost use Rattle.tap_office.specs.Opening.{opened_of};
-ghost use Rattle.gate_service.specs.Tally.{IsBelow};
 
 use super::notices::Unwatched;
 use super::scripts::{Frame, Heard, Script, ScriptLine, whole};
 use super::*;
-use gate_service::{GateLine, Post, Tally, new_post, seats_of, serve_all, tallies_of};
+use gate_service::{GateLine, Post, Service, Tally, new_post, seats_of, serve_all, tallies_of};
 use std::alloc::AllocError;
 use std::marker::Brand;
 use std::sync::Wait;
@@ -26,9 +24,7 @@ fn posts_of<'a, N: Named, R: AllocGlobal>(
     heard: &'a Heard,
     seats: Vec<Seat<N>>,
     desks: Vec<Desk<N>>,
-) -> Result<Vec<Post<ScriptLine<'a, R>, N>>, AllocError>
-    ensures { IfOk result (λ posts. All (λ post. IsBelow (2 ^ 62) post.tally) posts.items) }
-{
+) -> Result<Vec<Post<ScriptLine<'a, R>, N>>, AllocError> {
     let mut posts = Vec::new(clock.alloc());
     for (seat, desk) in seats.into_iter().zip(desks) {
         let line = ScriptLine {
@@ -63,23 +59,22 @@ fn serve_posts<
     L: GateLine + Drop + Send,
     N: Named + Send + Sync,
     R: AllocGlobal + Threads + Wait + Sync,
->(rt: &R, office: Office<N, MemoryDisk>, posts: Vec<Post<L, N>>) -> Result<(Vec<Tally>, u32), Fail>
-    requires { All (λ post. IsBelow (2 ^ 62) post.tally) posts.items }
-{
+>(
+    rt: &R,
+    office: Office<N, MemoryDisk>,
+    posts: Vec<Post<L, N>>,
+) -> Result<(Vec<Tally>, u32), Fail> {
     let alloc = rt.alloc();
     let mut posts = posts;
-    serve_all(
-        rt,
-        alloc,
-        &office,
-        &Unwatched,
-        posts.as_mut_slice(),
-        10,
-        1_000_000,
-    );
+    let service = Service {
+        office,
+        watch: &Unwatched,
+        connections: 10,
+    };
+    serve_all(rt, alloc, &service, posts.as_mut_slice());
     let tallies = Vec::with_capacity(alloc, posts.len())?;
     let tallies = tallies_of(posts.as_slice(), tallies);
-    let entries = close_posts(rt, office, posts)?;
+    let entries = close_posts(rt, service.office, posts)?;
     Ok((tallies, entries))
 }
 

@@ -71,8 +71,8 @@ fn all_of(bytes: &'static [u8]) -> Trial {
     }
 }
 
-/// What came of a session: what was served, the bytes written, how many entries an enquiry sees behind
-/// it, and how many touches a watch was shown as accepted.
+/// What came of a session: what was served, the bytes written, how many entries an enquiry sees
+/// behind it, and how many touches a watch was shown as accepted.
 #[derive(Drop)]
 struct Outcome {
     served: Served,

@@ -1,4 +1,5 @@
 use Rattle.gate_service.specs.Clerk.{clerk_at}
+use Rattle.gate_service.specs.declared.post.TheConstants.{TURNS}
 use Rattle.gate_service.proofs.PostLemmas.{given-goes_on, session-goes_on, run-keeps, requests_few}
 use Rattle.gate_service.proofs.post.serve_clerk.Goals as goal
 
@@ -21,7 +22,7 @@ pub returns-clause-seat : goal.returns-clause-seat
 returns-clause-seat g c =
     (session-goes_on _ (λ clerk. clerk_at clerk.seat.now clerk.desk.now)
     (λ x y request answer given. given-goes_on g.N.Named.opened (clerk_at x.seat.now x.desk.now)
-    (clerk_at y.seat.now y.desk.now) request answer given.2) _ _ c.args.turns c.serve.result _ _
+    (clerk_at y.seat.now y.desk.now) request answer given.2) _ _ TURNS c.serve.result _ _
     c.serve.ensures.session.says).seat
 
 -- and the desk
@@ -29,8 +30,8 @@ pub returns-clause-desk : goal.returns-clause-desk
 returns-clause-desk g c =
     (session-goes_on _ (λ clerk. clerk_at clerk.seat.now clerk.desk.now)
     (λ x y request answer given. given-goes_on g.N.Named.opened (clerk_at x.seat.now x.desk.now)
-    (clerk_at y.seat.now y.desk.now) request answer given.2) _ _ c.args.turns c.serve.result _ _
+    (clerk_at y.seat.now y.desk.now) request answer given.2) _ _ TURNS c.serve.result _ _
     c.serve.ensures.session.says).desk
 
 pub returns-clause-few : goal.returns-clause-few
-returns-clause-few g c = requests_few _ _ _ c.args.turns c.serve.result _ _ c.serve.ensures.session.says
+returns-clause-few g c = requests_few _ _ _ TURNS c.serve.result _ _ c.serve.ensures.session.says

@@ -25,5 +25,6 @@ loop-post-preserved g c =
 
 pub returns : goal.returns
 returns g c =
-    let none : length c.loop-post.posts.items ≡ 0 = omega (arith, c.loop-post.posts.ok.0, c.in_default.ensures.cases.0) in
+    let none : length c.loop-post.posts.items ≡ 0 =
+    omega (arith, c.loop-post.posts.ok.0, c.in_default.ensures.cases.0) in
     none-left (λ post. post.seat) c.loop-post.posts.items _ c.loop-post.seats.items none c.loop-post.invariant.items

@@ -5,7 +5,8 @@ use Rattle.gate_service.proofs.posts.seats_of.Given as goal
 abbrev pub invariant-loop-post : goal.invariant-loop-post
 invariant-loop-post g l = record {
   room : length l.seats.items + length l.posts.items ≤ vec_capacity l.seats;
-  items : map (λ post. post.seat) (reverse l.fn.posts.items) ≡ l.seats.items ++ map (λ post. post.seat) (reverse l.posts.items);
+  items : map (λ post. post.seat) (reverse l.fn.posts.items)
+      ≡ l.seats.items ++ map (λ post. post.seat) (reverse l.posts.items);
 }
 
 abbrev pub decreases-loop-post : goal.decreases-loop-post

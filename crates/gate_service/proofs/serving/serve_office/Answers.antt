@@ -1,15 +1,8 @@
-use Rattle.std.proofs.Common.{◌++◌, ◌^◌, subst, sym}
-use Rattle.std.specs.List.{All}
+use Rattle.std.proofs.Common.{◌++◌, subst}
 use Rattle.std.specs.Io.KnownBytes.{Appends}
 use Rattle.std.proofs.KnownBytes.{Appends-trans}
 use Rattle.gate_service.specs.Report.{opened_line, report_text}
-use Rattle.gate_service.specs.Tally.{IsBelow}
 use Rattle.gate_service.proofs.serving.serve_office.Goals as goal
-
--- the posts are those that came in
-pub serve_watched-requires-clause-below : goal.serve_watched-requires-clause-below
-serve_watched-requires-clause-below g c κs within =
-    subst (All (λ post. IsBelow (2 ^ 62) post.tally)) (sym c.in_ok-ready.ensures.posts) c.requires
 
 -- the report stands behind the first line
 pub returns : goal.returns
@@ -18,6 +11,7 @@ returns g c = record {
   entries = c.in_ok-ended.ended.entries;
   appends =
       subst (λ opened. Appends (g.W.Write.contents c.args.output.now) (g.W.Write.contents c.write_report.new.writer)
-      (opened_line opened ++ report_text c.deref.result.now c.in_ok-ended.ended.halted c.in_ok-ended.ended.entries)) c.opened.ensures
+      (opened_line opened
+      ++ report_text c.deref.result.now c.in_ok-ended.ended.halted c.in_ok-ended.ended.entries)) c.opened.ensures
       (Appends-trans _ _ _ _ _ c.in_ok-write_opened.ensures c.in_ok-write_report.ensures);
 }

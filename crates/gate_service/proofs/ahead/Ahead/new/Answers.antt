@@ -1,5 +1,6 @@
 use Rattle.std.proofs.Common.{refl, ap, ◌∙◌, get_or, false}
 use Rattle.std.proofs.lemmas.List.{get_or-replicate}
+use Rattle.gate_service.specs.declared.ahead.TheConstants.{GATES}
 use Rattle.gate_service.proofs.ahead.Ahead.new.Goals as goal
 
 pub returns : goal.returns
@@ -7,5 +8,5 @@ returns c = record {
   days = record { first = refl; second = refl };
   told = λ gate within.
       ap (λ l. get_or l gate false) (c.in_ok-told.ensures.items_if_clones_equal (λ y is. is))
-      ∙ get_or-replicate 65_536 gate false false within;
+      ∙ get_or-replicate GATES gate false false within;
 }

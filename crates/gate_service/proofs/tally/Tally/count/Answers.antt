@@ -5,8 +5,9 @@ use Rattle.gate_service.proofs.tally.Tally.count.Goals as goal
 pub returns-clause-grown : goal.returns-clause-grown
 returns-clause-grown c =
     let ends = c.args.self.now.ends in
-    HasGrown-one c.args.served.now.end c.args.self.now _ c.args.served.now.requests c.args.served.now.answers (search rules)
-    (ap (λ place. slice_set ends place (slice_index ends place + 1)) c.place_of.ensures) refl refl refl c.requires.counted
+    HasGrown-one c.args.served.now.end c.args.self.now _ c.args.served.now.requests c.args.served.now.answers
+    (search rules) (ap (λ place. slice_set ends place (slice_index ends place + 1)) c.place_of.ensures)
+    refl refl refl c.requires.counted
 
 pub returns-clause-counted : goal.returns-clause-counted
 returns-clause-counted c =

@@ -1,8 +1,0 @@
-use Rattle.std.proofs.Common.{◌^◌}
-use Rattle.std.specs.List.{All}
-use Rattle.gate_service.specs.Tally.{IsBelow}
-use Rattle.gate_service_tests.proofs.tests.serve.posts_of.Given as goal
-
--- each post that was made has served nobody yet
-abbrev pub invariant-loop-seat : goal.invariant-loop-seat
-invariant-loop-seat g l = All (λ post. IsBelow (2 ^ 62) post.tally) l.posts.items
