@@ -282,49 +282,6 @@ class Log:
         return [int(number) for name, number, _, _ in self.lines() if name == wanted]
 
 
-def written(content, at, data):
-    """The content with these bytes at a place."""
-    return content.ljust(at, b"\0")[:at] + data + content[at + len(data):]
-
-
-class Disk:
-    """A file by the calls on it: what is durable, and the writes since."""
-
-    def __init__(self):
-        self.durable, self.pending = b"", []
-
-    def call(self, name, at, data):
-        if name == "pwrite":
-            self.pending.append((at, data))
-        elif name in ("fdatasync", "fsync"):
-            self.durable, self.pending = self.content(), []
-
-    def content(self):
-        content = self.durable
-        for at, data in self.pending:
-            content = written(content, at, data)
-        return content
-
-    def images(self, draw):
-        """Some of the contents that a loss of power may leave now."""
-        yield self.durable
-        yield self.content()
-        for fill in (b"\x00", b"\xa5", b"\x04", b"\xff", None):
-            content = self.durable
-            for at, data in self.pending:
-                torn = draw.randbytes(len(data)) if fill is None else fill * len(data)
-                content = written(content, at, torn)
-            yield content
-            yield content[:draw.randint(min(len(self.durable), len(content)), len(content))]
-        for _ in range(6):
-            # The first bytes of the last write, and any behind them.
-            content = self.durable
-            for at, data in self.pending:
-                cut = draw.randint(0, len(data))
-                content = written(content, at, data[:cut] + draw.randbytes(len(data) - cut))
-            yield content
-
-
 def wait_for(holds, seconds=10):
     """Waits until it holds: whether it does."""
     limit = time.monotonic() + seconds

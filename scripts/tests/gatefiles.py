@@ -10,6 +10,7 @@ import subprocess
 import clients
 import harness
 import model
+import power
 import wire
 from clients import CAUSE, FIRST, RESULT, SOURCE, TESTS, Careful, GateTest, Gone, Told, journey, replied_to
 from harness import EXAMPLE, TIME, TOP
@@ -286,7 +287,7 @@ class Power(GateTest):
 
     def check_kept_first(self):
         """Nothing is sent that isn't durable, and the writes are those of docs/JOURNAL.md."""
-        disk, sent = clients.Disk(), []
+        disk, sent = power.Disk(), []
         for name, at, data in self.logged():
             disk.call(name, at, data)
             if name == "send":
@@ -311,13 +312,13 @@ class Power(GateTest):
 
     def check_torn(self, seed=1):
         """Each moment's losses of power, with any bytes where a write wasn't synced."""
-        draw, disk, asked, count = random.Random(seed), clients.Disk(), 0, 0
+        draw, disk, asked, count = random.Random(seed), power.Disk(), 0, 0
         for name, at, data in self.logged():
             disk.call(name, at, data)
             asked += name == "send"
             if name not in ("pwrite", "fdatasync"):
                 continue
-            for image in disk.images(draw):
+            for image in disk.images(draw, 8):
                 self.check_image(image, asked)
                 count += 1
         return count

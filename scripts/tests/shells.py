@@ -70,8 +70,8 @@ class Bash(Shell):
 
     def begin(self, tree):
         self.told(PROMPT)
-        for line in (f"source {tree}/usr/share/bash-completion/completions/bovtrila", "bind 'set page-completions off'",
-                     "bind -x '\"\\C-g\": printf \"<%s>\\n\" \"$READLINE_LINE\"'"):
+        for line in (f'for file in {tree}/usr/share/bash-completion/completions/*; do source "$file"; done',
+                     "bind 'set page-completions off'", "bind -x '\"\\C-g\": printf \"<%s>\\n\" \"$READLINE_LINE\"'"):
             self.line(line)
 
 
