@@ -36,6 +36,7 @@ def names(text):
     text = text.replace("scripts/bovtrila gate_send", "gate_send").replace("scripts/bovtrila", "bovtrila")
     text = re.sub(rf"\bscripts/({'|'.join(commands())})(?![\w.-])", r"bovtrila-\1", text)
     text = re.sub(r"\bdocs/([A-Z_]+\.md)", r"\1", text).replace("crates/tap_server/stdin", f"{SHARE}/requests.txt")
+    text = re.sub(r"(?<![\w/.])clients/(c|wireshark)\b", rf"{SHARE}/clients/\1", text)
     return re.sub(r"(?<![\w/])docs/(example\.toml|vectors[a-z-]*\.t)", rf"{SHARE}/docs/\1", text)
 
 

@@ -1,6 +1,7 @@
-"""The program's command line, read from the tables of crates/command_line: each command, with what stands behind it.
+"""The command lines of the programs: each command of bovtrila, with what stands behind it, read from the tables of
+crates/command_line, and gate_send's, read from the calls that build it.
 
-scripts/dev/completion makes completion for shells of it, and scripts/dev/man-pages what manual pages say of options.
+scripts/dev/completion makes completion for shells of them, and scripts/dev/man-pages what manual pages say of options.
 """
 import collections
 import pathlib
@@ -20,6 +21,10 @@ Parameter = collections.namedtuple("Parameter", "name values words help is_requi
 
 TOKEN = re.compile(r'\s+|//[^\n]*|"(?P<text>(?:[^"\\]|\\.)*)"|(?P<word>[\w:]*\w)|(?P<mark>.)', re.S)
 CONST = re.compile(r"^(?:pub(?:\(\w+\))? )?const (?P<name>\w+): [^=]*=", re.M)
+# What gate_send's command line has an option or its last words by, and what is said of them.
+MADE = re.compile(r'(?P<maker>number|option|flag|Arg::new)\(alloc, "(?P<name>[a-z-]+)"(?P<said>.*)', re.S)
+SAID = re.compile(r'\.(?P<call>value_name|help)\(\s*"(?P<text>(?:[^"\\]|\\.)*)"', re.S)
+CITED = re.compile(r"\.(?P<call>value_name|help)\(\s*(?P<name>[A-Z_]+)\s*\)")
 
 
 class Value:
@@ -115,6 +120,19 @@ def about(source=SOURCE):
     return constants(source / "commands.rt")["ABOUT"]
 
 
-def gate_about():
-    """What a gate's program does."""
-    return constants(GATE_SOURCE)["ABOUT"]
+def gate_parameter(known, called):
+    """The parameter of gate_send that is made by this call of its command's `arg`, by the file's constants."""
+    made = MADE.search(called)
+    said = {match["call"]: match["text"] for match in SAID.finditer(made["said"])}
+    said |= {match["call"]: known[match["name"]] for match in CITED.finditer(made["said"])}
+    said = {call: re.sub(r"\\n|\n", " ", text) for call, text in said.items()}
+    values = (said["value_name"],) if "value_name" in said else ()
+    is_required, is_last = ".required(true)" in made["said"], made["maker"] == "Arg::new"
+    return Parameter(made["name"], values, (), said["help"], is_required, (), is_last)
+
+
+def gate_command(source=GATE_SOURCE):
+    """The command line of a gate's program, its parameters in the order of the help."""
+    known, text = constants(source), source.read_text()
+    listed = [gate_parameter(known, part) for part in re.split(r"\bcommand\s*\.arg\(", text)[1:]]
+    return Command(GATE, known["ABOUT"], known["EXAMPLE"], tuple(listed))
