@@ -1,4 +1,4 @@
-"""The two servers that are measured, and the gates that ask them: for scripts/dev/measure-serve."""
+"""The two servers that are measured, and the gates that ask them: for the measuring scripts."""
 import os
 import pathlib
 import shutil
@@ -13,6 +13,8 @@ from harness import EXAMPLE, PROGRAM, TOP, first_line
 
 # The cards and the capacity of a server under load, and how many requests a load makes at most.
 CARDS, CAPACITY, MOST = 1000, 400_000, {"touch": 300_000, "enquiry": 4_000_000}
+# A folder in memory, where there is one.
+FAST = "/dev/shm" if os.access("/dev/shm", os.W_OK) else None
 # How many seconds a server may take to open or to end, and a load beyond its own seconds.
 PATIENCE = 120
 
@@ -23,10 +25,10 @@ class Bench:
     def __init__(self, options):
         self.rounds, self.seconds = options.rounds, options.seconds
         self.before = ["chrt", "-r", "5"] if options.realtime else []
-        if options.same:
-            self.bovtrila = self.bare
         self.holder = tempfile.TemporaryDirectory(prefix="measure-serve-", dir=options.folder)
-        self.folder = pathlib.Path(self.holder.name)
+        self.folder = self.journals = pathlib.Path(self.holder.name)
+        self.in_memory = tempfile.TemporaryDirectory(prefix="measure-serve-", dir=FAST) if FAST else self.holder
+        self.memory = pathlib.Path(self.in_memory.name)
         compiler = next((name for name in ("cc", "gcc", "clang") if shutil.which(name)), None)
         if compiler is None:
             sys.exit("measure-serve: bench/ needs a C compiler (on Debian: apt-get install gcc libc6-dev)")
@@ -34,18 +36,24 @@ class Bench:
             source = TOP / "bench" / f"{name}.c"
             subprocess.run([compiler, "-O2", "-pthread", "-o", self.folder / name, source], check=True)
 
+    def places(self):
+        """Has new journals on the disk, and then in memory, where there is a folder for that: the name of each place."""
+        for name, self.journals in (("on a disk", self.folder), ("in memory", self.memory))[: 2 if FAST else 1]:
+            yield name
+
     def bovtrila(self, connections, cards=CARDS, capacity=CAPACITY, journal=None, before=(), revised=()):
         """Starts Bovtrila's server for so many connections, on a new journal where none is given, with further tables."""
         if journal is None:
-            journal = self.folder / "journal"
+            journal = self.journals / "journal"
             journal.unlink(missing_ok=True)
         words = ["serve", "--table", EXAMPLE, "--journal", journal, "--cards", cards, "--capacity", capacity,
                  "--listen", "127.0.0.1:0", "--lines", connections, "--connections", 2, *revised]
         return Server([*self.before, *before, PROGRAM, *words])
 
-    def bare(self, connections, before=()):
-        """Starts the bare server for so many connections."""
-        return Server([*self.before, *before, self.folder / "bare_server", self.folder / "bare", connections, 2])
+    def bare(self, connections, before=(), longer=0):
+        """Starts the bare server for so many connections, which holds its lock so many nanoseconds longer for a touch."""
+        words = [self.folder / "bare_server", self.journals / "bare", connections, 2, longer]
+        return Server([*self.before, *before, *words])
 
     def load(self, server, kind, connections, first=1, seconds=None, most=None):
         """Starts gates that ask a server, of numbers from the first on."""

@@ -1,0 +1,102 @@
+"""What the measuring scripts share: their options, runs in turn, figures, and tables. They pass or fail nothing.
+
+A table stands behind a line with its name, both where a script prints it and in docs/PERFORMANCE.md, where
+scripts/dev/measure-all puts what was printed."""
+import argparse
+import re
+import statistics
+import sys
+import time
+
+NAME = "<!-- measured: {} -->"
+NAMED = re.compile(r"<!-- measured: ([\w-]+) -->")
+# What a script says in place of a table that it can't measure here.
+NOT_RUN = "not run: "
+# After how many seconds no further round is made where three are there.
+ENOUGH = 90
+
+
+def asked(text, parts, rounds=None, seconds=None, has_folder=False, builds=None):
+    """What the command line of a script with these parts asks for."""
+    reader = argparse.ArgumentParser(description=text, formatter_class=argparse.RawDescriptionHelpFormatter)
+    reader.add_argument("--quick", action="store_true", help="one short round on small inputs, to try the script")
+    if rounds:
+        reader.add_argument("--rounds", type=int, help=f"how often each figure is measured ({rounds})")
+    if seconds:
+        reader.add_argument("--seconds", type=float, help=f"how long a server is asked in a round ({seconds})")
+    if has_folder:
+        reader.add_argument("--folder", default="/var/tmp", help="a folder on a real disk (/var/tmp)")
+        reader.add_argument("--realtime", action="store_true", help="before other programs (chrt -r 5), as root")
+    for flag, build in (builds or {}).items():
+        reader.add_argument(flag, help=f"a build in place of {build}")
+    reader.add_argument("parts", nargs="*", metavar="PART", help=", ".join(parts))
+    options = reader.parse_args()
+    if wrong := [part for part in options.parts if part not in parts]:
+        reader.error(f"no part is named {wrong[0]}: {', '.join(parts)}")
+    if rounds:
+        options.rounds = options.rounds or (1 if options.quick else rounds)
+    if seconds:
+        options.seconds = options.seconds or (0.2 if options.quick else seconds)
+    options.parts = options.parts or list(parts)
+    return options
+
+
+def in_turn(rounds, runs):
+    """Runs each of these, by its name, in each round, beginning with another one each time: the results by name. Where
+    the rounds take long, three are made at least."""
+    results, names, end = {name: [] for name in runs}, list(runs), time.monotonic() + ENOUGH
+    for number in range(rounds):
+        if number >= 3 and time.monotonic() > end:
+            print(f"after {ENOUGH} s: {number} rounds in place of {rounds}", file=sys.stderr, flush=True)
+            break
+        first = number % len(names)
+        for name in names[first:] + names[:first]:
+            results[name].append(runs[name]())
+    return results
+
+
+def ratio(ones, others):
+    """The median of the ratios of each round, with the least and the greatest."""
+    ratios = [one / other for one, other in zip(ones, others)]
+    return f"{statistics.median(ratios):.2f} ({min(ratios):.2f} to {max(ratios):.2f})"
+
+
+def column(runs, name):
+    return [getattr(run, name) for run in runs]
+
+
+def middle(runs, name, form=",.0f"):
+    return format(statistics.median(column(runs, name)), form)
+
+
+def compared(ones, others, name, form=",.0f"):
+    """The medians of both sides, and their ratio."""
+    return middle(ones, name, form), middle(others, name, form), ratio(column(ones, name), column(others, name))
+
+
+def row(*cells):
+    print("| " + " | ".join(str(cell) for cell in cells) + " |", flush=True)
+
+
+def table(name, *heads):
+    print(f"\n{NAME.format(name)}\n", flush=True)
+    row(*heads)
+    print("|" + "---|" * len(heads), flush=True)
+
+
+def not_run(why):
+    print(f"\n{NOT_RUN}{why}", flush=True)
+
+
+def tables(text):
+    """The tables of a text, by their names: the lines of each."""
+    found, name = {}, None
+    for line in text.splitlines():
+        if match := NAMED.fullmatch(line):
+            name = match[1]
+            found[name] = []
+        elif name and line.startswith("|"):
+            found[name].append(line)
+        elif line or name and found[name]:
+            name = None
+    return found
