@@ -4,7 +4,7 @@ ghost use Rattle.std.specs.Prelude.{◌≡◌, IfOk, IfSome};
 ghost use Rattle.clap.specs.Values.{kind_of};
 ghost use Rattle.clap.specs.declared.error.kind.ErrorKind.TheVariants.{InvalidSubcommand};
 ghost use Rattle.clap.specs.declared.error.kind.ErrorKind.TheVariants.{InvalidValue};
-ghost use Rattle.command_line.specs.Arguments.{IsAllowed, IsServeAllowed, IsVerifyAllowed};
+ghost use Rattle.command_line.specs.Arguments.{IsAllowed};
 
 use crate::balances::{Balances, balances_asked};
 use crate::check::{Check, check_asked};

@@ -1,6 +1,6 @@
 //! The command `verify`: a journal or a gate's file that is read alone, and what is told of it.
 
-ghost use Rattle.std.specs.Prelude.{◌≡◌, ◌⊎◌, [], IfOk, IfErr, IfSome, map, option_map};
+ghost use Rattle.std.specs.Prelude.{◌≡◌, ◌⊎◌, [], IfOk, IfErr, IfSome, option_map};
 ghost use Rattle.std.specs.Process.{exit_status};
 ghost use Rattle.fare_schedule.specs.Schedule.{revisions_of};
 ghost use Rattle.reply_book.specs.Tables.{tables_in as tables_by};

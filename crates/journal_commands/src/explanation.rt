@@ -1,7 +1,8 @@
 //! What stands behind the fault of a journal: the two values that differ, or the table that is
 //! missing. The fault itself doesn't say it, so the files are read again.
 
-ghost use Rattle.std.specs.Prelude.{◌≡◌, ◌≤◌, ◌<◌, [], length, string_bytes, IfOk, IfSome};
+ghost use Rattle.std.specs.Prelude.{◌≡◌, ◌≤◌, ◌<◌, [], length, string_bytes, None, Some};
+ghost use Rattle.std.specs.Prelude.{IfOk, IfSome};
 ghost use Rattle.fare_schedule.specs.Schedule.{revisions_of};
 ghost use Rattle.oyster_account.specs.History.{is_accepted};
 ghost use Rattle.oyster_account.specs.declared.card.TheConstants.{HISTORY_LIMIT as MOST};
@@ -54,7 +55,11 @@ struct Wanted {
 
 impl<'a> OpenedBy<'a> {
     /// The words of `serve`.
-    pub fn serve(asked: &'a Serve<'a>) -> OpenedBy<'a> {
+    pub fn serve(asked: &'a Serve<'a>) -> OpenedBy<'a>
+        ensures { (result.table ≡ Some asked.now.table)
+            × (result.revisions.now ≡ asked.now.revisions.items)
+            × (result.journal ≡ asked.now.journal) × (result.cards ≡ Some asked.now.cards) }
+    {
         OpenedBy {
             table: Some(asked.table),
             revisions: asked.revisions.as_slice(),
@@ -64,7 +69,10 @@ impl<'a> OpenedBy<'a> {
     }
 
     /// The words of `migrate`: those of the old journal.
-    pub fn migrate(asked: &'a Migrate<'a>) -> OpenedBy<'a> {
+    pub fn migrate(asked: &'a Migrate<'a>) -> OpenedBy<'a>
+        ensures { (result.table ≡ Some asked.now.table) × (result.revisions.now ≡ [])
+            × (result.journal ≡ asked.now.from) × (result.cards ≡ Some asked.now.cards) }
+    {
         OpenedBy {
             table: Some(asked.table),
             revisions: &[],
@@ -74,7 +82,11 @@ impl<'a> OpenedBy<'a> {
     }
 
     /// The words of `verify`.
-    pub fn verify(asked: &'a Verify<'a>) -> OpenedBy<'a> {
+    pub fn verify(asked: &'a Verify<'a>) -> OpenedBy<'a>
+        ensures { (result.table ≡ asked.now.table)
+            × (result.revisions.now ≡ asked.now.revisions.items)
+            × (result.journal ≡ asked.now.journal) × (result.cards ≡ None) }
+    {
         OpenedBy {
             table: asked.table,
             revisions: asked.revisions.as_slice(),
@@ -84,7 +96,11 @@ impl<'a> OpenedBy<'a> {
     }
 
     /// The words of `history`.
-    pub fn history(asked: &'a History<'a>) -> OpenedBy<'a> {
+    pub fn history(asked: &'a History<'a>) -> OpenedBy<'a>
+        ensures { (result.table ≡ Some asked.now.table)
+            × (result.revisions.now ≡ asked.now.revisions.items)
+            × (result.journal ≡ asked.now.journal) × (result.cards ≡ None) }
+    {
         OpenedBy {
             table: Some(asked.table),
             revisions: asked.revisions.as_slice(),
@@ -94,7 +110,11 @@ impl<'a> OpenedBy<'a> {
     }
 
     /// The words of `balances`.
-    pub fn balances(asked: &'a Balances<'a>) -> OpenedBy<'a> {
+    pub fn balances(asked: &'a Balances<'a>) -> OpenedBy<'a>
+        ensures { (result.table ≡ Some asked.now.table)
+            × (result.revisions.now ≡ asked.now.revisions.items)
+            × (result.journal ≡ asked.now.journal) × (result.cards ≡ None) }
+    {
         OpenedBy {
             table: Some(asked.table),
             revisions: asked.revisions.as_slice(),

@@ -1,17 +1,16 @@
 -- What the account charges for a journey by itself.
-use Rattle.std.proofs.Common.{◌≡◌, ◌+◌, ℕ, ℤ, Bool, true, false, List, [], ◌∷◌, map, refl, ap, ◌∙◌, arith}
+use Rattle.std.proofs.Common.{◌≡◌, ◌+◌, Bool, true, false, List, [], ◌∷◌, map, refl, ap, ◌∙◌, arith}
 use Rattle.std.specs.Ordering.{int_eq}
-use Rattle.fare_table.specs.Fare.{Content}
 use Rattle.fare_table.specs.declared.rows.Cap.{Cap}
 use Rattle.oyster_account.specs.declared.travel.Passage.{Passage}
 use Rattle.oyster_account.specs.declared.journey.Journey.{Journey}
-use Rattle.oyster_account.specs.Scheme.{Scheme, scheme_by}
-use Rattle.oyster_account.specs.Travel.{Tap, In, Out, day_of}
+use Rattle.oyster_account.specs.Scheme.{Scheme}
+use Rattle.oyster_account.specs.Travel.{In, Out, day_of}
 use Rattle.oyster_account.specs.Leg.{is_in_time}
-use Rattle.oyster_account.specs.Journey.{journey_of, journey_day, pence_of}
+use Rattle.oyster_account.specs.Journey.{journey_of, pence_of}
 use Rattle.oyster_account.specs.Charge.{is_covered, capped, least, day_charge, caps_on, travel_charge}
 use Rattle.oyster_account.proofs.DayLemmas.{int_eq-same}
-use Rattle.table_report.specs.Fare.{capped_by, passage_by}
+use Rattle.table_report.specs.Fare.{capped_by}
 
 -- what a cap makes of one journey is its price, and the fare where it doesn't cover it
 capped-alone : (j : Journey) (cap : Cap) (b : Bool) → is_covered cap j.fare ≡ b

@@ -5,7 +5,7 @@ ghost use Rattle.std.specs.Prelude.{sum_by, IfOk};
 ghost use Rattle.oyster_account.specs.declared.card.TheConstants.{HISTORY_LIMIT};
 ghost use Rattle.oyster_account.specs.declared.reply.Judged.{Judged};
 ghost use Rattle.oyster_account.specs.History.{counts_for};
-ghost use Rattle.reply_book.specs.Book.{entries_of, cards_of, Stands};
+ghost use Rattle.reply_book.specs.Book.{entries_of, Stands};
 ghost use Rattle.reply_book.specs.Legal.{history_of};
 ghost use Rattle.journal_audit.specs.Sums.{fall, rise, moved, plus, charge_in, left_in};
 ghost use Rattle.journal_audit.specs.Sums.{pence_moved, most_moved};
