@@ -28,7 +28,8 @@ of_descriptors = 23 ∷ 24 ∷ []
 abbrev pub of_memory : List ℕ
 of_memory = 12 ∷ 105 ∷ []
 
--- what the system is short of by an error's number, or by none: nothing where it is the gate's alone
+-- what the system is short of by an error's number, or by none: nothing where it is the gate's
+-- alone
 abbrev pub shortage_of : Option ℤ → Option Shortage
 shortage_of None = Some (Other (pos 0))
 shortage_of (Some (negsuc n)) = Some (Other (negsuc n))

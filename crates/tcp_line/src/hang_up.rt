@@ -13,8 +13,8 @@ const PIECE: usize = 4_096;
 const PIECES: u32 = 256;
 
 /// Ends a connection whose gate may still be sending: the answers end, and what comes is read for a
-/// second at most, and up to a mebibyte. A connection that is closed with bytes unread is reset, and a
-/// gate may then lose an answer that it didn't read yet.
+/// second at most, and up to a mebibyte. A connection that is closed with bytes unread is reset,
+/// and a gate may then lose an answer that it didn't read yet.
 pub(crate) fn hang_up<R: Clock, S: Read + OpenStream>(rt: &R, stream: &mut S) {
     let Ok(begun) = rt.monotonic() else {
         return;

@@ -15,13 +15,14 @@ use std::sync::atomic::{AtomicBool, Ordering};
 use std::time::{Clock, Duration};
 use std::{io, thread};
 
-/// For how many milliseconds a line waits before it tries again, at the first time in a shortage. Each
-/// further wait is twice as long, up to the longest.
+/// For how many milliseconds a line waits before it tries again, at the first time in a shortage.
+/// Each further wait is twice as long, up to the longest.
 const FIRST_PAUSE: u64 = 10;
 
 const LONGEST_PAUSE: u64 = 1_000;
 
-/// A line over TCP: the connections of its gates. All lines of a server take theirs from one listener.
+/// A line over TCP: the connections of its gates. All lines of a server take theirs from one
+/// listener.
 #[derive(Drop)]
 pub struct TcpLine<'a, R, L> {
     /// What it waits and tells by.
@@ -37,12 +38,12 @@ pub struct TcpLine<'a, R, L> {
 }
 
 impl<'a, R: Clock + Eprint, L: OpenListener> TcpLine<'a, R, L> {
-    /// A line of this listener. A gate that sends nothing, or takes none of its answers, for as long
-    /// as `idle` says is given up, and so is one whose request isn't whole once its rest was waited
-    /// for so long; without it none is. `told` and `ended` are one each for all lines of the
-    /// listener, and `false` at first. Once `ended` is `true` each line has no more connections: one
-    /// that waits for a gate sees it within a second, and one that waits at the listener once that is
-    /// shut down.
+    /// A line of this listener. A gate that sends nothing, or takes none of its answers, for as
+    /// long as `idle` says is given up, and so is one whose request isn't whole once its rest was
+    /// waited for so long; without it none is. `told` and `ended` are one each for all lines of the
+    /// listener, and `false` at first. Once `ended` is `true` each line has no more connections:
+    /// one that waits for a gate sees it within a second, and one that waits at the listener once
+    /// that is shut down.
     pub fn new(
         rt: &'a R,
         listener: &'a L,
@@ -124,8 +125,8 @@ where
         )
     }
 
-    /// One attempt. `None` where the gate was gone before its first byte, and where the server's lines
-    /// are ended.
+    /// One attempt. `None` where the gate was gone before its first byte, and where the server's
+    /// lines are ended.
     fn attempt(&self) -> Result<Option<(L::Stream, L::Stream)>, Shortage> {
         if self.is_ended() {
             return Ok(None);

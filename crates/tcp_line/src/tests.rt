@@ -156,8 +156,8 @@ fn fresh_notes() -> Notes {
     }
 }
 
-/// By these steps, and then by gates that send, the first connection comes after so many attempts, and
-/// the line has waited for so many milliseconds and told so many lines.
+/// By these steps, and then by gates that send, the first connection comes after so many attempts,
+/// and the line has waited for so many milliseconds and told so many lines.
 fn assert_comes<R: Abort>(rt: &R, steps: &[Step], attempts: usize, waited: u64, told: u64) {
     let script = Script {
         steps,

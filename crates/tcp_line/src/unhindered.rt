@@ -5,8 +5,8 @@ use libc::types::pollfd;
 use std::fmt::Display;
 use std::io;
 
-/// Prints to standard error what it takes at once, and drops what it doesn't. Where nobody reads what
-/// was printed to a pipe, a line would wait here, and gates with it.
+/// Prints to standard error what it takes at once, and drops what it doesn't. Where nobody reads
+/// what was printed to a pipe, a line would wait here, and gates with it.
 #[derive(Drop)]
 pub struct Unhindered<'a, R>(pub &'a R);
 

@@ -8,8 +8,8 @@ use std::time::{Clock, Duration};
 
 /// What a gate is answered over its connection.
 ///
-/// A write fails of which the gate took nothing for as long as the line gives its gates, and one that
-/// waits at the end of the server's lines for a second.
+/// A write fails of which the gate took nothing for as long as the line gives its gates, and one
+/// that waits at the end of the server's lines for a second.
 #[derive(Drop)]
 pub struct GateWriter<'a, R, S> {
     /// What it waits by.
