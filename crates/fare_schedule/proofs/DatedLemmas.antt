@@ -99,7 +99,8 @@ place-newest-of : (place : ℕ) (r : Dated) (ds : List Dated) (newest : Dated) (
     place_by place (r ∷ ds) day ≡ newest.place
 place-newest-of place r [] newest day last counts =
     let same : r ≡ newest = ap (λ o. unwrap_or o r) last in
-    ap (λ b. cond b r.place place) (subst (λ d. is_until day d ≡ true) (sym same) counts) ∙ ap (λ (d : Dated). d.place) same
+    ap (λ b. cond b r.place place) (subst (λ d. is_until day d ≡ true) (sym same) counts)
+    ∙ ap (λ (d : Dated). d.place) same
 place-newest-of place r (s ∷ ds) newest day last counts =
     place-newest-of (cond (is_until day r) r.place place) s ds newest day last counts
 

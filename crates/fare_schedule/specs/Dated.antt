@@ -1,5 +1,6 @@
 -- Revisions as the code keeps them: the place of the table and the fare day, oldest first.
-use Rattle.std.specs.Prelude.{◌≡◌, ℕ, ℤ, ◌≤◌, ◌<◌, ◌<ℤ◌, int_le, Bool, true, false, List, [], ◌∷◌, map, length}
+use Rattle.std.specs.Prelude.{◌≡◌, ℕ, ℤ, ◌≤◌, ◌<◌, ◌<ℤ◌, int_le, Bool}
+use Rattle.std.specs.Prelude.{true, false, List, [], ◌∷◌, map, length}
 use Rattle.std.specs.Prelude.{get_or, slice_get, unwrap_or, option_map, if◌then◌else◌}
 use Rattle.std.specs.List.{All, AllPairs}
 use Rattle.fare_table.specs.Fares.{digest_of}

@@ -7,7 +7,8 @@ use Rattle.fare_schedule.specs.InForce.{table_of}
 use Rattle.fare_schedule.specs.Schedule.{tables_of}
 use Rattle.fare_schedule.specs.Stations.{have_same_stations}
 use Rattle.fare_schedule.specs.declared.fault.SupplyFault.{SupplyFault}
-use Rattle.fare_schedule.specs.declared.fault.SupplyFault.TheVariants.{Twice, OtherZone, OtherStations}
+use Rattle.fare_schedule.specs.declared.fault.SupplyFault.TheVariants.{Twice, OtherZone}
+use Rattle.fare_schedule.specs.declared.fault.SupplyFault.TheVariants.{OtherStations}
 use Rattle.fare_schedule.specs.declared.fault.SupplyFault.TheVariants.{TooMany}
 use Rattle.fare_schedule.specs.declared.schedule.Schedule.{Schedule}
 use Rattle.fare_schedule.specs.declared.schedule.TheConstants.{TABLE_LIMIT}

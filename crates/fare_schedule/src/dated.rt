@@ -22,8 +22,8 @@ impl Dated {
     }
 }
 
-/// The place of the table in force on a fare day. `recent` is how many revisions are likely to count
-/// on it.
+/// The place of the table in force on a fare day. `recent` is how many revisions are likely to
+/// count on it.
 pub(crate) fn place_on(dated: &[Dated], recent: usize, day: i32) -> usize
     requires ascending { AreAscending dated.now }
     ensures value { result ≡ place_by 0 dated.now day }

@@ -114,8 +114,8 @@ impl Schedule {
         self.table(place_on(self.dated.as_slice(), self.recent, day))
     }
 
-    /// Turns to a fare day, which [`Schedule::on`] is likely to be asked for next. Tables, revisions
-    /// and room stay, and so does the table in force on each day. It takes no memory.
+    /// Turns to a fare day, which [`Schedule::on`] is likely to be asked for next. Tables,
+    /// revisions and room stay, and so does the table in force on each day. It takes no memory.
     pub fn turn_to(&mut self, day: i32)
         ensures tables { tables_of self.new ≡ tables_of self.old }
         ensures revisions { revisions_of self.new ≡ revisions_of self.old }

@@ -2,7 +2,8 @@
 -- of TfL's published scheme; the evening exception, how a station of two zones counts, and which of
 -- equal prices is taken are this project's choice).
 use Rattle.std.specs.Prelude.{ℕ, ℤ, Bool, true, false, not, ◌&&◌, ◌==◌, nat_lt, min, max}
-use Rattle.std.specs.Prelude.{List, [], ◌∷◌, map, Option, Some, None, option_map, unwrap_or, if◌then◌else◌}
+use Rattle.std.specs.Prelude.{List, [], ◌∷◌, map, Option, Some, None}
+use Rattle.std.specs.Prelude.{option_map, unwrap_or, if◌then◌else◌}
 use Rattle.std.specs.List.{find, flat_map}
 use Rattle.jiff_tz.specs.declared.timezone.TimeZone.{TimeZone}
 use Rattle.money_time.specs.Stamp.{stamp_of as zone_stamp}

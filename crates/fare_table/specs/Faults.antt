@@ -14,12 +14,15 @@ use Rattle.fare_table.specs.Repeats.{repeats}
 use Rattle.fare_table.specs.Limits.{is_maximum_low}
 use Rattle.fare_table.specs.Zones.{has_zone, all_zones}
 use Rattle.fare_table.specs.Fare.{single_at}
-use Rattle.fare_table.specs.Content.{same_station, same_single, same_pair, same_cap, same_interchange}
-use Rattle.fare_table.specs.Content.{rates_of, stations_of, singles_of, pairs_of, caps_of, interchanges_of}
+use Rattle.fare_table.specs.Content.{same_station, same_single, same_pair}
+use Rattle.fare_table.specs.Content.{same_cap, same_interchange}
+use Rattle.fare_table.specs.Content.{rates_of, stations_of, singles_of}
+use Rattle.fare_table.specs.Content.{pairs_of, caps_of, interchanges_of}
 use Rattle.fare_table.specs.declared.key.Key.TheVariants as key
 use Rattle.fare_table.specs.declared.fault.Cause.TheVariants as cause
 use Rattle.fare_table.specs.declared.fault.TableFault.{TableFault}
-use Rattle.fare_table.specs.declared.fault.TableFault.TheVariants.{NotToml, UnknownStation, MissingSingle}
+use Rattle.fare_table.specs.declared.fault.TableFault.TheVariants.{NotToml, UnknownStation}
+use Rattle.fare_table.specs.declared.fault.TableFault.TheVariants.{MissingSingle}
 use Rattle.fare_table.specs.declared.fault.TableFault.TheVariants.{MaximumTooLow, BadZone, BadDate}
 use Rattle.fare_table.specs.declared.rates.Rates.{Rates}
 use Rattle.fare_table.specs.declared.rows.Single.{Single}

@@ -6,7 +6,8 @@ ghost use Rattle.std.proofs.Props.{props};
 ghost use Rattle.fare_table.specs.Faults.{first_fault};
 ghost use Rattle.fare_table.specs.Limits.{is_maximum_low, AreWithinLimits};
 ghost use Rattle.fare_table.specs.Listed.{fares_of, band_of, HasSingles};
-ghost use Rattle.fare_table.specs.declared.key.TheConstants.{HIGHEST_PRICE, HIGHEST_BALANCE, MOST_MINUTES, MOST_CAPS};
+ghost use Rattle.fare_table.specs.declared.key.TheConstants.{HIGHEST_PRICE, HIGHEST_BALANCE};
+ghost use Rattle.fare_table.specs.declared.key.TheConstants.{MOST_MINUTES, MOST_CAPS};
 
 use crate::fare::{self, Fare};
 use crate::fault::TableFault;
@@ -51,7 +52,8 @@ impl Fares {
     ghost use Rattle.fare_table.specs.Fares.{content_of, digest_of, zone_text_of};
     ghost use Rattle.fare_table.specs.Stations.{has_stations_of};
     ghost use Rattle.fare_table.specs.Table.{IsTableOf};
-    ghost use Rattle.fare_table.specs.Fare.{station_at, zones_at, fare_of, maximum_of, leg_minutes_of, interchange_of};
+    ghost use Rattle.fare_table.specs.Fare.{station_at, zones_at, fare_of, maximum_of};
+    ghost use Rattle.fare_table.specs.Fare.{leg_minutes_of, interchange_of};
     ghost use Rattle.fare_table.specs.Fare.{stamp_of};
     ghost use Rattle.money_time.specs.Stamp.{by_holidays};
 

@@ -1,5 +1,6 @@
 //! The stations of a table, by number.
-ghost use Rattle.std.specs.Prelude.{◌≡◌, ◌≢◌, ◌==◌, ◌++◌, List, [], map, length, option_copied, option_map, Some, None, IfOk, IfErr};
+ghost use Rattle.std.specs.Prelude.{◌≡◌, ◌≢◌, ◌==◌, ◌++◌, List, [], map, length};
+ghost use Rattle.std.specs.Prelude.{option_copied, option_map, Some, None, IfOk, IfErr};
 ghost use Rattle.std.specs.List.{find, list_any, list_all};
 ghost use Rattle.toml.specs.View.{view};
 ghost use Rattle.indexmap.specs.IndexMap.{values};

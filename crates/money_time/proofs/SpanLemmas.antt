@@ -1,11 +1,14 @@
 -- From an instant to the next change of a rule, in one year, its clock has one offset.
-use Rattle.std.proofs.Common.{◌≡◌, ℕ, zero, suc, ◌+◌, ◌≤◌, ◌<◌, ◌≤ℤ◌, ◌<ℤ◌, ◌-ℤ◌, ℤ, pos, Bool, true, false, int_lt, int_le, nat_le, if◌then◌else◌, ◌-◌, ◌*◌, ◌/◌, ◌⊎◌, option_map, Option, Some, None, inl, inr, refl, sym, ap, ◌∙◌, arith}
+use Rattle.std.proofs.Common.{◌≡◌, ℕ, zero, suc, ◌+◌, ◌≤◌, ◌<◌, ◌≤ℤ◌, ◌<ℤ◌, ◌-ℤ◌, ℤ, pos, Bool, true}
+use Rattle.std.proofs.Common.{false, int_lt, int_le, nat_le, if◌then◌else◌, ◌-◌, ◌*◌, ◌/◌, ◌⊎◌}
+use Rattle.std.proofs.Common.{option_map, Option, Some, None, inl, inr, refl, sym, ap, ◌∙◌, arith}
 use Rattle.std.proofs.lemmas.Bool.Decides.{leb_tells, nat_tests}
 use Rattle.jiff_core.proofs.SignedLemmas.{signed_arith}
 use Rattle.jiff_core.specs.Calendar.{days_of_years}
 use Rattle.jiff_core.specs.declared.Offset.{Offset}
 use Rattle.jiff_tz.specs.Year.{years_within, year_of_nanos}
-use Rattle.jiff_tz.specs.PosixRule.{match_some, in_window, utc_window, transition_of, next_year, next_by, next_at, dst_at_by, offset_at}
+use Rattle.jiff_tz.specs.PosixRule.{match_some, in_window, utc_window, transition_of}
+use Rattle.jiff_tz.specs.PosixRule.{next_year, next_by, next_at, dst_at_by, offset_at}
 use Rattle.jiff_tz.specs.declared.info.OffsetInfo.{OffsetInfo}
 use Rattle.jiff_tz.specs.declared.posix.Dst.{Dst}
 use Rattle.jiff_tz.specs.declared.posix.TimeZone.{TimeZone}
