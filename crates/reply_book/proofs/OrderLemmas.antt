@@ -1,5 +1,6 @@
 -- A legal history's accepted travel is in order for each card, and a revision changes nothing of what is seen.
-use Rattle.std.proofs.Common.{◌≡◌, ℕ, ℤ, ◌<ℤ◌, Bool, true, false, not, ◌&&◌, ◌==◌, cond, List, [], ◌∷◌, ◌++◌, map, filter, reverse, refl, sym, ap, ◌∙◌, subst, arith, pos, Some, None, ◌⊎◌, inl, inr}
+use Rattle.std.proofs.Common.{◌≡◌, ℕ, ℤ, ◌<ℤ◌, Bool, true, false, not, ◌&&◌, ◌==◌, cond, List, [], ◌∷◌, ◌++◌, map}
+use Rattle.std.proofs.Common.{filter, reverse, refl, sym, ap, ◌∙◌, subst, arith, pos, Some, None, ◌⊎◌, inl, inr}
 use Rattle.std.proofs.lemmas.List.{append-nil, reverse-append}
 use Rattle.std.specs.List.{All, cons_option}
 use Rattle.std.proofs.lemmas.List.Elements.{All-tail}
@@ -27,7 +28,8 @@ use Rattle.oyster_account.specs.Order.{IsInOrder}
 use Rattle.oyster_account.specs.Agreement.{AgreeBefore}
 use Rattle.oyster_account.proofs.AgreementLemmas.{order-before, travel-agrees}
 use Rattle.oyster_account.proofs.LawLemmas.{never-back, ahead, view-kept, others-nothing}
-use Rattle.reply_book.specs.Tables.{Tables, first_alone, revision_of, revisions_after, table_by, scheme_by, scheme_after}
+use Rattle.reply_book.specs.Tables.{Tables, first_alone, revision_of, revisions_after, table_by, scheme_by}
+use Rattle.reply_book.specs.Tables.{scheme_after}
 use Rattle.reply_book.specs.Legal.{IsLegal, touches_in, judge_after, judged_after, book_after}
 use Rattle.reply_book.specs.View.{view_after, no_view}
 use Rattle.reply_book.specs.Laws.{DoRevisionsAloneRevise, AreRevisionsUnseen, IsBookOfTheFirst}
@@ -60,7 +62,8 @@ agree-before tables revisions more day same = record {
 
 -- ---- a revision
 
--- what a revision that was judged does to the scheme: nothing, or nothing before a day that no accepted travel has reached
+-- what a revision that was judged does to the scheme: nothing, or nothing before a day that no accepted travel
+-- has reached
 abbrev pub IsAhead : Tables → List Judged → Judged → Type 0
 IsAhead tables history judged =
     (scheme_after tables (history ++ judged ∷ []) ≡ scheme_after tables history)
@@ -164,8 +167,10 @@ order-of_card tables cards history judged reply is order card =
     by_test true e =
         let parts = both (is_of card judged.touch) (is_accepted judged.reply) e in
         let own : judged.touch.card ≡ card =
-        equal judged.touch.card card (both (not (is_revision judged.touch.act)) (judged.touch.card == card) parts.0).1 in
-        let given = reply ∙ reply-of_card (scheme_after tables history) cards history judged.touch judged.touch.act is in
+        equal judged.touch.card card
+        (both (not (is_revision judged.touch.act)) (judged.touch.card == card) parts.0).1 in
+        let given =
+        reply ∙ reply-of_card (scheme_after tables history) cards history judged.touch judged.touch.act is in
         subst (λ (n : ℕ). IsInOrder (travel (scheme_after tables history) (judged.touch.act ∷ accepted n history))) own
         (never-back (scheme_after tables history) (accepted judged.touch.card history) judged.touch.act
         (order judged.touch.card) (judged-so parts.1 (is_card cards judged.touch.card) given))
@@ -212,7 +217,8 @@ pub revisions-unseen : AreRevisionsUnseen
 unfolding view_after
 revisions-unseen tables cards history touch card legal is =
     let judged : Judged = judged_after tables cards history touch in
-    ap (λ (acts : List Act). cond (is_card cards card) (view (scheme_after tables (history ++ judged ∷ [])) acts) no_view)
+    ap (λ (acts : List Act). cond (is_card cards card)
+    (view (scheme_after tables (history ++ judged ∷ [])) acts) no_view)
     (others-nothing card history judged (revision-not-of card touch is))
     ∙ ap (λ (v : CardView). cond (is_card cards card) v no_view)
     (view-ahead tables history judged card (revision-ahead tables cards history judged refl is)
@@ -233,7 +239,8 @@ first-after tables cards before (touch ∷ touches) none unrevised =
     first-after tables cards (before ++ judged ∷ []) touches
     (All-tail (λ (touch : Touch). is_revision touch.act ≡ false) touch touches none)
     (revisions-unchanged before judged no_revision ∙ unrevised)
-    ∙ ap (λ (r : Reply). book_after (first_alone tables) cards (before ++ record { touch = touch; reply = r } ∷ []) touches)
+    ∙ ap (λ (r : Reply). book_after (first_alone tables) cards
+    (before ++ record { touch = touch; reply = r } ∷ []) touches)
     same
 
 pub book-of_first : IsBookOfTheFirst

@@ -1,5 +1,6 @@
 -- A revision is ahead of all that a legal history has reached, so what was reached keeps its table.
-use Rattle.std.proofs.Common.{◌≡◌, ℕ, ℤ, ◌<ℤ◌, ◌≤ℤ◌, Bool, true, false, not, ◌&&◌, ◌||◌, cond, List, [], ◌∷◌, ◌++◌, length, zero, suc, take, refl, sym, ap, ◌∙◌, subst, arith, pos, Option, Some, None}
+use Rattle.std.proofs.Common.{◌≡◌, ℕ, ℤ, ◌<ℤ◌, ◌≤ℤ◌, Bool, true, false, not, ◌&&◌, ◌||◌, cond, List, [], ◌∷◌, ◌++◌}
+use Rattle.std.proofs.Common.{length, zero, suc, take, refl, sym, ap, ◌∙◌, subst, arith, pos, Option, Some, None}
 use Rattle.std.specs.Prelude.{int_lt, slice_get}
 use Rattle.std.specs.List.{list_any, cons_option}
 use Rattle.std.proofs.lemmas.List.{append-nil, append_assoc}
@@ -17,7 +18,8 @@ use Rattle.oyster_account.specs.declared.verdict.Refusal.TheVariants.{BadDay}
 use Rattle.oyster_account.specs.Touch.{moment_of}
 use Rattle.oyster_account.specs.History.{is_accepted}
 use Rattle.oyster_account.specs.Judge.{has_reached, is_day_bad, reply_for, refused, granted}
-use Rattle.reply_book.specs.Tables.{Tables, revision_of, revision_in, revisions_after, table_by, scheme_by, scheme_after}
+use Rattle.reply_book.specs.Tables.{Tables, revision_of, revision_in, revisions_after, table_by, scheme_by}
+use Rattle.reply_book.specs.Tables.{scheme_after}
 use Rattle.reply_book.specs.Reached.{day_reached, is_reached}
 use Rattle.reply_book.specs.Legal.{IsLegal, judge_after}
 use Rattle.reply_book.specs.Laws.{day_reached_in, HasReached, AreRevisionsAhead, DoReachedDaysKeepTables}

@@ -1,5 +1,6 @@
 -- The revisions of a history, the scheme after it, and the last day that it has reached.
-use Rattle.std.proofs.Common.{◌≡◌, ℤ, ◌≤◌, Bool, true, false, not, ◌&&◌, ◌||◌, cond, List, [], ◌∷◌, ◌++◌, refl, sym, ap, ◌∙◌, arith, Option, Some, None}
+use Rattle.std.proofs.Common.{◌≡◌, ℤ, ◌≤◌, Bool, true, false, not, ◌&&◌, ◌||◌, cond, List, [], ◌∷◌, ◌++◌, refl, sym, ap}
+use Rattle.std.proofs.Common.{◌∙◌, arith, Option, Some, None}
 use Rattle.std.proofs.lemmas.List.{append-nil}
 use Rattle.std.proofs.lemmas.List.Elements.{filter_map-append}
 use Rattle.std.proofs.lemmas.List.Folds.{list_any-append}
@@ -25,7 +26,8 @@ use Rattle.oyster_account.specs.History.{is_accepted}
 use Rattle.oyster_account.specs.Scheme.{Scheme, scheme_of}
 use Rattle.oyster_account.specs.Priced.{IsPriced}
 use Rattle.oyster_account.specs.Judge.{has_reached, is_day_bad}
-use Rattle.reply_book.specs.Tables.{Tables, tables_in, revision_of, revision_in, revisions_after, table_by, scheme_by, scheme_after}
+use Rattle.reply_book.specs.Tables.{Tables, tables_in, revision_of, revision_in, revisions_after, table_by, scheme_by}
+use Rattle.reply_book.specs.Tables.{scheme_after}
 use Rattle.reply_book.specs.Reached.{day_reached, is_reached, later_of, reached_after}
 
 -- ---- the scheme

@@ -6,7 +6,8 @@ use Rattle.std.proofs.Common.{to_z, of_z, ℤ}
 use Rattle.std.proofs.lemmas.Int.{to_z-of_z}
 use Rattle.reply_book.specs.Reached.{is_reached, reply_to_revision}
 use Rattle.reply_book.proofs.BookLemmas.{revision-judged}
-use Rattle.reply_book.proofs.ApplyLemmas.{last-below, refused-reached, accepted-free, revision-refused, revision-accepted}
+use Rattle.reply_book.proofs.ApplyLemmas.{last-below, refused-reached, accepted-free, revision-refused}
+use Rattle.reply_book.proofs.ApplyLemmas.{revision-accepted}
 use Rattle.reply_book.proofs.book.Book.take_up_revision.Goals as goal
 use Rattle.reply_book.proofs.book.Book.take_up_revision.Goals.{After-is_accepted}
 
