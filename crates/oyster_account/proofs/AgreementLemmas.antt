@@ -17,8 +17,8 @@ use Rattle.oyster_account.specs.declared.totals.Totals.{Totals}
 use Rattle.oyster_account.specs.declared.travels.Travels.{Travels}
 use Rattle.oyster_account.specs.declared.travels.Newest.TheVariants.{Inside, Outside}
 use Rattle.oyster_account.specs.declared.account.Account.{Account}
-use Rattle.oyster_account.specs.Totals.{today, AreParts, IsRunning}
-use Rattle.oyster_account.specs.Travels.{newest_of, closed, IsTravelOf, IsNewestKnown}
+use Rattle.oyster_account.specs.Totals.{today, AreParts, AreSums, IsRunning}
+use Rattle.oyster_account.specs.Travels.{open_charge, newest_of, closed, IsTravelOf, IsNewestKnown}
 use Rattle.oyster_account.specs.Account.{IsAccountOf, IsAccountSafe}
 use Rattle.std.specs.Option.{ForSome}
 use Rattle.oyster_account.specs.Agreement.{AgreeBefore, IsNewestBefore}
@@ -237,15 +237,15 @@ module _ (day : ℤ) (scheme revised : Scheme) (agree : AgreeBefore day scheme r
       (view revised [])) (balance-agrees acts before)
 
   -- the running sums are those of the same journeys
-  running-agrees : (js : List Journey) (r : Totals) → AreMadeBefore day js → IsRunning (caps_on scheme) js r →
-      IsRunning (caps_on revised) js r
-  running-agrees [] r made is = record {
+  sums-are : (js : List Journey) (r : Totals) → AreMadeBefore day js → AreSums (caps_on scheme) js r →
+      AreSums (caps_on revised) js r
+  sums-are [] r made is = record {
     last = is.last;
     sum = is.sum;
     uncovered = is.uncovered;
     settled = is.settled;
   }
-  running-agrees (j ∷ js) r made is =
+  sums-are (j ∷ js) r made is =
       let caps : caps_on scheme (journey_day j) ≡ caps_on revised (journey_day j) =
       sym (caps-agree (journey_day j) made.0) in
       record {
@@ -256,10 +256,23 @@ module _ (day : ℤ) (scheme revised : Scheme) (agree : AgreeBefore day scheme r
             ∙ sym (journeys_charge-agrees (j ∷ js) made);
       }
 
+  -- and so is what is kept of their charge
+  running-agrees : (js : List Journey) (r : Totals) → AreMadeBefore day js → IsRunning (caps_on scheme) js r →
+      IsRunning (caps_on revised) js r
+  running-agrees js r made is = record {
+    sums = sums-are js r made is.sums;
+    charged = is.charged ∙ sym (journeys_charge-agrees js made);
+  }
+
   closed-before : (taps : List Tap) → AreBefore day taps → AreBefore day (closed taps)
   closed-before [] before = tt
   closed-before (In a ∷ taps) before = before.1
   closed-before (Out b ∷ taps) before = before
+
+  open-agrees : (taps : List Tap) → AreBefore day taps → open_charge revised taps ≡ open_charge scheme taps
+  open-agrees [] before = refl
+  open-agrees (In a ∷ taps) before = entry-agrees a taps before.0 before.1
+  open-agrees (Out b ∷ taps) before = refl
 
   newest-agrees : (taps : List Tap) → AreBefore day taps → newest_of revised taps ≡ newest_of scheme taps
   newest-agrees [] before = refl
@@ -274,6 +287,7 @@ module _ (day : ℤ) (scheme revised : Scheme) (agree : AgreeBefore day scheme r
         subst (λ js. IsRunning (caps_on revised) js t.totals) (sym (journeys-agree taps before))
         (running-agrees (journeys scheme taps) t.totals (journeys-before day scheme taps before) is.totals);
     incomplete = is.incomplete ∙ sym (incomplete-agrees (closed taps) (closed-before taps before));
+    taken = is.taken ∙ sym (open-agrees taps before);
     newest = is.newest ∙ sym (newest-agrees taps before);
   }
 
@@ -283,8 +297,6 @@ module _ (day : ℤ) (scheme revised : Scheme) (agree : AgreeBefore day scheme r
   account-agrees acts account before is = record {
     issued = is.issued;
     paid = is.paid;
-    charged = is.charged ∙ sym (ap (travel_charge revised) (travel-agrees acts before)
-        ∙ charge-agrees (travel scheme acts) before);
     travels =
         subst (λ taps. IsTravelOf revised taps account.travels) (sym (travel-agrees acts before))
         (travels-agree (travel scheme acts) account.travels before is.travels);
@@ -320,11 +332,12 @@ module _ (day : ℤ) (scheme revised : Scheme) (agree : AgreeBefore day scheme r
               subst (IsNewestKnown revised) (sym is.travels.newest)
               (newest-known taps before (subst (IsNewestKnown scheme) is.travels.newest safe.travels.newest));
           last =
-              subst (λ last. ForSome last (λ journey. IsKnown revised journey.start)) (sym is.travels.totals.last)
+              subst (λ last. ForSome last (λ journey. IsKnown revised journey.start)) (sym is.travels.totals.sums.last)
               (last-known (journeys scheme taps) (journeys-before day scheme taps before)
-              (subst (λ last. ForSome last (λ journey. IsKnown scheme journey.start)) is.travels.totals.last
+              (subst (λ last. ForSome last (λ journey. IsKnown scheme journey.start)) is.travels.totals.sums.last
               safe.travels.last));
           spent = safe.travels.spent;
+          charged = safe.travels.charged;
         };
         paid = safe.paid;
       }

@@ -8,8 +8,8 @@ use Rattle.oyster_account.specs.declared.travels.Travels.{Travels}
 use Rattle.oyster_account.specs.Scheme.{Scheme}
 use Rattle.oyster_account.specs.Travel.{Tap, In, Out, IsKnown}
 use Rattle.oyster_account.specs.Leg.{ends_leg}
-use Rattle.oyster_account.specs.Journey.{continues, start_of, journeys}
-use Rattle.oyster_account.specs.Charge.{caps_on, maximum_at, incomplete_charge}
+use Rattle.oyster_account.specs.Journey.{continues, journeys}
+use Rattle.oyster_account.specs.Charge.{caps_on, entry_charge, incomplete_charge}
 use Rattle.oyster_account.specs.Totals.{IsRunning, spent}
 
 -- the newest touch, with what it did
@@ -24,22 +24,18 @@ closed (In start ∷ taps) = taps
 closed (Out finish ∷ taps) = Out finish ∷ taps
 closed [] = []
 
+-- what an open touch in takes, and 0 where there is none
+abbrev pub open_charge : Scheme → List Tap → ℕ
+open_charge scheme [] = 0
+open_charge scheme (In start ∷ taps) = entry_charge scheme start taps
+open_charge scheme (Out finish ∷ taps) = 0
+
 -- what is kept is of this travel
 pub record IsTravelOf (scheme : Scheme) (taps : List Tap) (travels : Travels) : Type 0 where
   pub totals : IsRunning (caps_on scheme) (journeys scheme taps) travels.totals
   pub incomplete : travels.incomplete ≡ incomplete_charge scheme (closed taps)
+  pub taken : travels.taken ≡ open_charge scheme taps
   pub newest : travels.newest ≡ newest_of scheme taps
-
--- what an open touch in takes, where there is one
-abbrev pub open_charge_of : Scheme → Travels → Newest → ℕ
-open_charge_of scheme travels Nowhere = 0
-open_charge_of scheme travels (Inside start continued) =
-    maximum_at scheme (start_of continued start travels.totals.last)
-open_charge_of scheme travels (Outside finish ended) = 0
-
--- what the open touch in among what is kept takes
-abbrev pub open_charge : Scheme → Travels → ℕ
-open_charge scheme travels = open_charge_of scheme travels travels.newest
 
 -- there is an open touch in
 abbrev pub is_inside : Newest → Bool
@@ -53,9 +49,10 @@ IsNewestKnown scheme Nowhere = Unit {0}
 IsNewestKnown scheme (Inside start continued) = IsKnown scheme start
 IsNewestKnown scheme (Outside finish ended) = Unit {0}
 
--- the stations that a further leg may start from are known, and the sums are those of so many
--- touches
+-- the stations that a further leg may start from are known, the sums are those of so many touches,
+-- and the journeys are charged no more than their fares
 pub record IsSafe (scheme : Scheme) (count : ℕ) (travels : Travels) : Type 0 where
   pub newest : IsNewestKnown scheme travels.newest
   pub last : ForSome travels.totals.last (λ journey. IsKnown scheme journey.start)
+  pub charged : travels.totals.charged ≤ spent travels.totals
   pub spent : spent travels.totals + travels.incomplete ≤ 2 * HIGHEST_PRICE * count

@@ -27,12 +27,9 @@ pub struct Account {
     issued: bool,
     /// What was paid in, in pence.
     paid: u64,
-    /// What its travel is charged, in pence.
-    charged: u64,
     /// Its touches in and out.
     travels: Travels,
     ghost paid_limit: { paid < 2 ^ 61 },
-    ghost charged_limit: { charged < 2 ^ 61 },
 }
 
 /// The reply to an act, and what is seen of the card after it.
@@ -54,7 +51,6 @@ impl Account {
         Account {
             issued: false,
             paid: 0,
-            charged: 0,
             travels: Travels::none(),
         }
     }
@@ -130,16 +126,8 @@ impl Account {
             → IsAccountSafe (scheme_of schedule.now) (count + 1) self.new }
     {
         match act {
-            Act::Enter { station, .. } => {
-                let acceptance = self.travels.enter(schedule, passage(*station, stamp));
-                self.charged = self.travels.charge(schedule);
-                acceptance
-            }
-            Act::Leave { station, .. } => {
-                let acceptance = self.travels.leave(schedule, passage(*station, stamp));
-                self.charged = self.travels.charge(schedule);
-                acceptance
-            }
+            Act::Enter { station, .. } => self.travels.enter(schedule, passage(*station, stamp)),
+            Act::Leave { station, .. } => self.travels.leave(schedule, passage(*station, stamp)),
             Act::TopUp { pence, .. } => {
                 self.paid += u64::from(*pence);
                 Acceptance::ToppedUp
@@ -159,7 +147,7 @@ impl Account {
         ensures low { negsuc (2 ^ 62) ≤ℤ result }
         ensures high { result ≤ℤ pos (2 ^ 62) }
     {
-        self.paid as i64 - self.charged as i64
+        self.paid as i64 - self.travels.charge() as i64
     }
 
     /// What is seen of the card.

@@ -46,6 +46,7 @@ returns-in-Some-clause-safe c count safe = record {
     newest = safe.travels.newest;
     last = safe.travels.last;
     spent = omega (arith, safe.travels.spent);
+    charged = safe.travels.charged;
   };
   paid = omega (arith, safe.paid);
 }
