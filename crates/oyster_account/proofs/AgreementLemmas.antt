@@ -1,5 +1,6 @@
 -- Schemes that agree before a fare day make the same of travel before it.
-use Rattle.std.proofs.Common.{◌≡◌, ℕ, ℤ, pos, ◌+◌, ◌-ℤ◌, ◌≤ℤ◌, ◌<ℤ◌, Bool, true, false, ◌&&◌, cond, List, [], ◌∷◌, IsTrue, refl, sym, ap, ◌∙◌, subst, arith, sum_by}
+use Rattle.std.proofs.Common.{◌≡◌, ℕ, ℤ, pos, ◌+◌, ◌-ℤ◌, ◌≤ℤ◌, ◌<ℤ◌, Bool, true, false, ◌&&◌, cond, List, [], ◌∷◌}
+use Rattle.std.proofs.Common.{IsTrue, refl, sym, ap, ◌∙◌, subst, arith, sum_by}
 use Rattle.std.proofs.lemmas.Int.{ints}
 use Rattle.std.proofs.lemmas.List.Sums.{sum_by-cons}
 use Rattle.oyster_account.specs.declared.touch.Act.{Act}
@@ -9,8 +10,10 @@ use Rattle.oyster_account.specs.declared.journey.Journey.{Journey}
 use Rattle.oyster_account.specs.Scheme.{Scheme, Terms}
 use Rattle.oyster_account.specs.Travel.{Tap, In, Out, passage_of, travel, newest, day_of, IsKnown}
 use Rattle.oyster_account.specs.Leg.{is_within_minutes, is_in_time, ends_leg}
-use Rattle.oyster_account.specs.Journey.{is_change_within, is_change, continues, start_of, journey_of, others_than, add_leg, journeys, journey_day}
-use Rattle.oyster_account.specs.Charge.{day_charge, on_day, has_day, days_of, charge_on, journeys_charge, caps_on, maximum_at, entry_charge, exit_charge, incomplete_charge, travel_charge}
+use Rattle.oyster_account.specs.Journey.{is_change_within, is_change, continues, start_of, journey_of, others_than}
+use Rattle.oyster_account.specs.Journey.{add_leg, journeys, journey_day}
+use Rattle.oyster_account.specs.Charge.{day_charge, on_day, has_day, days_of, charge_on, journeys_charge, caps_on}
+use Rattle.oyster_account.specs.Charge.{maximum_at, entry_charge, exit_charge, incomplete_charge, travel_charge}
 use Rattle.oyster_account.specs.Balance.{pence_paid, balance, is_issued, state_of, view}
 use Rattle.oyster_account.specs.Order.{IsInOrder}
 use Rattle.oyster_account.specs.declared.totals.Totals.{Totals}
@@ -223,7 +226,8 @@ module _ (day : ℤ) (scheme revised : Scheme) (agree : AgreeBefore day scheme r
       omega (arith, made, incomplete-agrees taps before)
 
   -- the balance is the same
-  pub balance-agrees : (acts : List Act) → AreBefore day (travel scheme acts) → balance revised acts ≡ balance scheme acts
+  pub balance-agrees : (acts : List Act) → AreBefore day (travel scheme acts) →
+      balance revised acts ≡ balance scheme acts
   balance-agrees acts before =
       ap (λ n. pos (sum_by pence_paid acts) -ℤ pos n)
       (ap (travel_charge revised) (travel-agrees acts before) ∙ charge-agrees (travel scheme acts) before)

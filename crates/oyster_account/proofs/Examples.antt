@@ -1,6 +1,6 @@
 -- The numbers that definitions and clauses take from the code, and worked examples, computed by the
 -- definitions: each reply is that of docs/FARES.md, "Worked examples".
-use Rattle.std.proofs.Common.{◌≡◌, refl, ℕ, ℤ, pos, ◌+◌, ◌-ℤ◌, ◌*◌, true, false, List, [], ◌∷◌, None, map}
+use Rattle.std.proofs.Common.{◌≡◌, refl, ℕ, ℤ, pos, ◌+◌, ◌-ℤ◌, ◌*◌, true, false, List, [], ◌∷◌, Some, None, map, codes}
 use Rattle.std.specs.Prelude.{◌/◌, ◌%◌, int_lt, if◌then◌else◌}
 use Rattle.jiff_core.specs.Calendar.{weekday_number}
 use Rattle.jiff_tz.specs.declared.timezone.TimeZone.{TimeZone}
@@ -21,10 +21,15 @@ use Rattle.oyster_account.specs.declared.totals.TheConstants.{CAP_LIMIT}
 use Rattle.oyster_account.specs.declared.travel.TheConstants.{SECONDS_PER_MINUTE}
 use Rattle.oyster_account.specs.declared.refusal.TheConstants.{TOP_UP_LIMIT}
 use Rattle.oyster_account.specs.declared.verdict.TheConstants.{FIRST_REFUSAL}
-use Rattle.oyster_account.specs.declared.touch.TheConstants.{KIND_ENTER, KIND_LEAVE, KIND_TOP_UP, KIND_ISSUE, KIND_REVISE}
-use Rattle.oyster_account.specs.declared.verdict.Acceptance.TheVariants.{Entered, EnteredContinued, EnteredOverOpen, Exited, ExitedUnstarted, ExitedLate, ToppedUp, Issued, Revised}
-use Rattle.oyster_account.specs.declared.verdict.Refusal.TheVariants.{UnknownCard, AlreadyIssued, UnknownStation, Backwards, LowBalance, BadAmount, OverLimit, BadDay}
-use Rattle.oyster_account.specs.Verdict.{acceptance_code, refusal_code}
+use Rattle.oyster_account.specs.declared.touch.TheConstants.{KIND_ENTER, KIND_LEAVE, KIND_TOP_UP, KIND_ISSUE}
+use Rattle.oyster_account.specs.declared.touch.TheConstants.{KIND_REVISE, TOUCH_SIZE}
+use Rattle.oyster_account.specs.declared.verdict.Acceptance.TheVariants.{Entered, EnteredContinued, EnteredOverOpen}
+use Rattle.oyster_account.specs.declared.verdict.Acceptance.TheVariants.{Exited, ExitedUnstarted, ExitedLate, ToppedUp}
+use Rattle.oyster_account.specs.declared.verdict.Acceptance.TheVariants.{Issued, Revised}
+use Rattle.oyster_account.specs.declared.verdict.Refusal.TheVariants.{UnknownCard, AlreadyIssued, UnknownStation}
+use Rattle.oyster_account.specs.declared.verdict.Refusal.TheVariants.{Backwards, LowBalance, BadAmount, OverLimit}
+use Rattle.oyster_account.specs.declared.verdict.Refusal.TheVariants.{BadDay}
+use Rattle.oyster_account.specs.Verdict.{acceptance_code, refusal_code, verdict_name, refusal_name}
 use Rattle.oyster_account.specs.Scheme.{Scheme, terms_of}
 use Rattle.oyster_account.specs.History.{is_accepted}
 use Rattle.oyster_account.specs.Judge.{judge, revision_reply}
@@ -64,6 +69,23 @@ refusing = refl
 -- the first byte of a touch in, a touch out, a top-up, an issue and a revision
 kinds : KIND_ENTER ∷ KIND_LEAVE ∷ KIND_TOP_UP ∷ KIND_ISSUE ∷ KIND_REVISE ∷ [] ≡ 1 ∷ 2 ∷ 3 ∷ 4 ∷ 6 ∷ []
 kinds = refl
+
+-- a touch has at most 51 bytes
+a_touch : TOUCH_SIZE ≡ 51
+a_touch = refl
+
+-- the names of an acceptance and of a refusal, and a code that has none
+a_name : verdict_name 6 ≡ Some (codes "ExitedLate")
+unfolding verdict_name
+a_name = refl
+
+a_refusals_name : verdict_name 27 ≡ Some (codes "BadDay")
+unfolding verdict_name refusal_name
+a_refusals_name = refl
+
+no_name : verdict_name 12 ≡ None
+unfolding verdict_name refusal_name
+no_name = refl
 
 abbrev station : ℕ → Zones → Station
 station id zones = record { id = id; name = []; zones = zones }

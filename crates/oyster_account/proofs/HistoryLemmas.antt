@@ -1,5 +1,6 @@
 -- What a judged history shows: its travel is in order, and its accepted acts grow by the newest touch.
-use Rattle.std.proofs.Common.{◌≡◌, ℕ, ℤ, ◌≤◌, Bool, true, false, List, [], ◌∷◌, ◌++◌, Option, Some, None, IsTrue, refl, sym, ap, ◌∙◌, reverse, arith, not, ◌&&◌, ◌||◌, ◌==◌, nat_lt, cond, map, filter}
+use Rattle.std.proofs.Common.{◌≡◌, ℕ, ℤ, ◌≤◌, Bool, true, false, List, [], ◌∷◌, ◌++◌, Option, Some, None, IsTrue, refl}
+use Rattle.std.proofs.Common.{sym, ap, ◌∙◌, reverse, arith, not, ◌&&◌, ◌||◌, ◌==◌, nat_lt, cond, map, filter}
 use Rattle.std.specs.Prelude.{int_lt}
 use Rattle.std.proofs.lemmas.Bool.{ltb-false}
 use Rattle.std.proofs.lemmas.Bool.Decides.{nat_tests}
@@ -12,14 +13,17 @@ use Rattle.oyster_account.specs.declared.reply.Judged.{Judged}
 use Rattle.oyster_account.specs.declared.reply.Reply.{Reply}
 use Rattle.oyster_account.specs.declared.refusal.TheConstants.{TOP_UP_LIMIT}
 use Rattle.oyster_account.specs.declared.verdict.Refusal.{Refusal}
-use Rattle.oyster_account.specs.declared.verdict.Refusal.TheVariants.{UnknownCard, AlreadyIssued, UnknownStation, Backwards, LowBalance, BadAmount, OverLimit, BadDay}
+use Rattle.oyster_account.specs.declared.verdict.Refusal.TheVariants.{UnknownCard, AlreadyIssued, UnknownStation}
+use Rattle.oyster_account.specs.declared.verdict.Refusal.TheVariants.{Backwards, LowBalance, BadAmount, OverLimit}
+use Rattle.oyster_account.specs.declared.verdict.Refusal.TheVariants.{BadDay}
 use Rattle.oyster_account.specs.declared.touch.Touch.{Touch}
 use Rattle.oyster_account.specs.Touch.{is_revision, is_of}
 use Rattle.oyster_account.specs.Scheme.{Scheme, Terms}
 use Rattle.oyster_account.specs.Travel.{Tap, passage_of, travel, day_of}
 use Rattle.oyster_account.specs.History.{is_accepted, counts_for, accepted, accepted_acts}
 use Rattle.oyster_account.specs.Balance.{is_issue, is_issued, balance}
-use Rattle.oyster_account.specs.Refusal.{is_station_unknown, is_balance_low, is_amount_bad, is_over_limit, is_before, is_passage_backwards, is_backwards, refuse, refusal_by, terms_for, refusal}
+use Rattle.oyster_account.specs.Refusal.{is_station_unknown, is_balance_low, is_amount_bad, is_over_limit, is_before}
+use Rattle.oyster_account.specs.Refusal.{is_passage_backwards, is_backwards, refuse, refusal_by, terms_for, refusal}
 use Rattle.oyster_account.specs.Judge.{reply_by, judge}
 use Rattle.oyster_account.specs.Order.{GoesOn, IsAfter, IsInOrder}
 use Rattle.oyster_account.specs.Account.{IsSound, acts_after}

@@ -12,7 +12,8 @@ use Rattle.oyster_account.specs.Refusal.{refusal_by}
 use Rattle.oyster_account.specs.Balance.{is_issue, is_issued}
 use Rattle.oyster_account.specs.Judge.{refused}
 use Rattle.oyster_account.proofs.HistoryLemmas.{unrefused_sound, unrefused_issued}
-use Rattle.oyster_account.proofs.AccountLemmas.{schedule-priced, kept-near, judged-refused, judged-granted, view-issued, acts_after-refused, acts_after-granted}
+use Rattle.oyster_account.proofs.AccountLemmas.{schedule-priced, kept-near, judged-refused, judged-granted, view-issued}
+use Rattle.oyster_account.proofs.AccountLemmas.{acts_after-refused, acts_after-granted}
 use Rattle.oyster_account.proofs.account.Account.apply.Goals as goal
 
 -- A refused act: the balance is the one that is seen.
