@@ -21,9 +21,9 @@ use Rattle.oyster_account.specs.declared.touch.Touch.{Touch}
 use Rattle.gate_session.specs.declared.answer.Answer.TheVariants as answers
 use Rattle.reply_book.specs.declared.entry.Entry.{Entry}
 use Rattle.tap_office.specs.declared.receipt.Receipt.{Receipt}
-use Rattle.tap_office.specs.Receipt.{Files, IsNote, filed_of}
-use Rattle.tap_desk.specs.declared.page.StoryName.{Ghosts}
-use Rattle.tap_desk.specs.Desks.{Known}
+use Rattle.tap_office.specs.Receipt.{Files, IsPoint, filed_of}
+use Rattle.tap_desk.specs.declared.copy_version.LogName.{Ghosts}
+use Rattle.tap_desk.specs.Desks.{DeskState}
 use Rattle.tap_desk.proofs.Prefixes.{prefix_self, prefix_trans}
 use Rattle.gate_service.specs.Clerk.{ClerkState, GoesOn, DeskGoesOn, HasGiven, IsReplied}
 use Rattle.gate_service.specs.Post.{HasGivenMore}
@@ -73,31 +73,31 @@ GoesOn-within m n a b within on = record {
 
 -- ---- desks
 
-pub DeskGoesOn-same : (before after : Known) → after.list ≡ before.list → after.notes ≡ before.notes
+pub DeskGoesOn-same : (before after : DeskState) → after.list ≡ before.list → after.points ≡ before.points
     → DeskGoesOn 0 before after
-DeskGoesOn-same before after list notes = record {
+DeskGoesOn-same before after list points = record {
   list = subst (λ (l : List Entry). IsPrefix before.list l) (sym list) (prefix_self before.list);
   newer = [];
-  notes = notes;
+  points = points;
   few = omega arith;
 }
 
-pub DeskGoesOn-more : (m n : ℕ) (a b c : Known) → DeskGoesOn m a b → DeskGoesOn n b c → DeskGoesOn (m + n) a c
+pub DeskGoesOn-more : (m n : ℕ) (a b c : DeskState) → DeskGoesOn m a b → DeskGoesOn n b c → DeskGoesOn (m + n) a c
 DeskGoesOn-more m n a b c first second = record {
   list = prefix_trans a.list b.list c.list first.list second.list;
   newer = second.newer ++ first.newer;
-  notes =
-      second.notes
-      ∙ ap (λ (l : List (List Entry)). second.newer ++ l) first.notes
-      ∙ sym (append_assoc second.newer first.newer a.notes);
+  points =
+      second.points
+      ∙ ap (λ (l : List (List Entry)). second.newer ++ l) first.points
+      ∙ sym (append_assoc second.newer first.newer a.points);
   few = omega (arith, first.few, second.few, length-append second.newer first.newer);
 }
 
-pub DeskGoesOn-within : (m n : ℕ) (a b : Known) → m ≤ n → DeskGoesOn m a b → DeskGoesOn n a b
+pub DeskGoesOn-within : (m n : ℕ) (a b : DeskState) → m ≤ n → DeskGoesOn m a b → DeskGoesOn n a b
 DeskGoesOn-within m n a b within on = record {
   list = on.list;
   newer = on.newer;
-  notes = on.notes;
+  points = on.points;
   few = omega (arith, within, on.few);
 }
 
@@ -112,7 +112,7 @@ ClerkGoesOn-same : (before after : ClerkState) → after ≡ before → ClerkGoe
 ClerkGoesOn-same before after is = record {
   seat = GoesOn-same before.seat after.seat (ap (λ (k : ClerkState). k.seat) is);
   desk = DeskGoesOn-same before.desk after.desk (ap (λ (k : ClerkState). k.desk.list) is)
-      (ap (λ (k : ClerkState). k.desk.notes) is);
+      (ap (λ (k : ClerkState). k.desk.points) is);
 }
 
 ClerkGoesOn-more : (m n : ℕ) (a b c : ClerkState) → ClerkGoesOn m a b → ClerkGoesOn n b c → ClerkGoesOn (m + n) a c
@@ -140,24 +140,24 @@ filed touch before after receipt files = by_fresh receipt.fresh refl
       few = omega arith;
     }
 
--- the reply of a receipt stands beside its touch in the note that the desk learns
+-- the reply of a receipt stands beside its touch in the log point that the desk learns
 pub IsReplied-by : {N : Type 0} {g : Ghosts N} (opened : Opened) (touch : Touch) (before after : ClerkState)
-    (receipt : Receipt N g) (note : List Entry) (answer : Answer)
-    → Files touch before.seat after.seat receipt → IsNote opened note receipt
-    → after.desk.list ≡ before.desk.list → after.desk.notes ≡ note ∷ before.desk.notes
+    (receipt : Receipt N g) (point : List Entry) (answer : Answer)
+    → Files touch before.seat after.seat receipt → IsPoint opened point receipt
+    → after.desk.list ≡ before.desk.list → after.desk.points ≡ point ∷ before.desk.points
     → answer ≡ answers.Reply touch.gate touch.number receipt.reply
     → IsReplied opened before after touch answer
-IsReplied-by opened touch before after receipt note answer files told list learnt is =
-    let entered : Touch → Entry = λ t. record { touch = t; reply = receipt.reply; seat = told.seat } in
+IsReplied-by opened touch before after receipt point answer files is_point list learnt is =
+    let entered : Touch → Entry = λ t. record { touch = t; reply = receipt.reply; seat = is_point.seat } in
     record {
-      note = note;
-      legal = told.legal;
-      begins = told.begins;
+      point = point;
+      legal = is_point.legal;
+      begins = is_point.begins;
       place = receipt.place;
       reply = receipt.reply;
-      seat = told.seat;
-      stands = told.stands ∙ ap (λ (t : Touch). Some (entered t)) files.touch_is;
-      seen = files.seen ∙ told.front_is;
+      seat = is_point.seat;
+      stands = is_point.stands ∙ ap (λ (t : Touch). Some (entered t)) files.touch_is;
+      seen = files.seen ∙ is_point.front_is;
       not_below = omega (arith, files.not_below, files.seen);
       goes_on = filed touch before.seat after.seat receipt files;
       learnt = learnt;
@@ -169,9 +169,10 @@ IsReplied-by opened touch before after receipt note answer files told list learn
 kept : (before after : SeatState) → after ≡ before → GoesOn 1 before after
 kept before after is = GoesOn-within 0 1 before after (omega arith) (GoesOn-same before after is)
 
-desk_kept : (before after : Known) → after.list ≡ before.list → after.notes ≡ before.notes → DeskGoesOn 1 before after
-desk_kept before after list notes =
-    DeskGoesOn-within 0 1 before after (omega arith) (DeskGoesOn-same before after list notes)
+desk_kept : (before after : DeskState) → after.list ≡ before.list → after.points ≡ before.points
+    → DeskGoesOn 1 before after
+desk_kept before after list points =
+    DeskGoesOn-within 0 1 before after (omega arith) (DeskGoesOn-same before after list points)
 
 pub given-goes_on : (opened : Opened) (before after : ClerkState) (request : Request) (answer : Answer)
     → HasGiven opened before after request answer → ClerkGoesOn 1 before after
@@ -181,26 +182,26 @@ given-goes_on opened before after (requests.Touch touch) answer given =
         seat = is.goes_on;
         desk = record {
           list = subst (λ (l : List Entry). IsPrefix before.desk.list l) (sym is.list) (prefix_self before.desk.list);
-          newer = is.note ∷ [];
-          notes = is.learnt;
+          newer = is.point ∷ [];
+          points = is.learnt;
           few = omega arith;
         };
       }
       | inr is ↦ record {
         seat = kept before.seat after.seat is.kept;
-        desk = desk_kept before.desk after.desk (ap (λ (k : Known). k.list) is.desk)
-            (ap (λ (k : Known). k.notes) is.desk);
+        desk = desk_kept before.desk after.desk (ap (λ (k : DeskState). k.list) is.desk)
+            (ap (λ (k : DeskState). k.points) is.desk);
       }
     ]
 given-goes_on opened before after (requests.Enquire card) answer given =
     elim given [
       | inl is ↦ record {
         seat = kept before.seat after.seat is.kept;
-        desk = record { list = is.list; newer = []; notes = is.notes; few = omega arith };
+        desk = record { list = is.list; newer = []; points = is.points; few = omega arith };
       }
       | inr is ↦ record {
         seat = kept before.seat after.seat is.kept;
-        desk = desk_kept before.desk after.desk is.list is.notes;
+        desk = desk_kept before.desk after.desk is.list is.points;
       }
     ]
 

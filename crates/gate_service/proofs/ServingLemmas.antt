@@ -5,7 +5,7 @@ use Rattle.std.proofs.lemmas.List.Elements.{All-nil, All-push}
 use Rattle.std.proofs.lemmas.List.Sums.{sum_by_push}
 use Rattle.gate_session.specs.declared.session.Served.{Served}
 use Rattle.gate_session.specs.Session.{HasCounted}
-use Rattle.tap_desk.specs.Desks.{Known}
+use Rattle.tap_desk.specs.Desks.{DeskState}
 use Rattle.tap_office.specs.Seat.{SeatState}
 use Rattle.gate_service.specs.declared.tally.Tally.{Tally}
 use Rattle.gate_service.specs.Clerk.{GoesOn, DeskGoesOn}
@@ -17,7 +17,7 @@ use Rattle.gate_service.proofs.TallyLemmas.{HasCountedIn-none, HasCountedIn-more
 use Rattle.gate_service.proofs.TallyLemmas.{HasGrown-within}
 
 -- nobody was served
-pub HasServed-none : (given : Option ℕ) (tally : Tally) (seat : SeatState) (desk : Known)
+pub HasServed-none : (given : Option ℕ) (tally : Tally) (seat : SeatState) (desk : DeskState)
     → HasServed 0 given given tally tally seat seat desk desk
 HasServed-none given tally seat desk = record {
   sessions = [];
@@ -32,7 +32,7 @@ HasServed-none given tally seat desk = record {
 
 -- one session after others
 pub HasServed-more : (count : ℕ) (session : Served) (given gave gives : Option ℕ) (old between new : Tally)
-    (before mid after : SeatState) (earlier then later : Known)
+    (before mid after : SeatState) (earlier then later : DeskState)
     → HasServed count given gave old between before mid earlier then → HasGivenMore gave gives 1
     → HasCounted session.end session.requests session.answers → HasCountedIn (session ∷ []) between new
     → HasGrown 1 between new → GoesOn session.requests mid after → DeskGoesOn session.requests then later
@@ -59,7 +59,7 @@ HasServed-more count session given gave gives old between new before mid after e
 
 -- no further connection came
 pub HasServed-all : (count most : ℕ) (given gave gives : Option ℕ) (old new : Tally) (before after : SeatState)
-    (earlier later : Known) → count ≤ most → HasServed count given gave old new before after earlier later
+    (earlier later : DeskState) → count ≤ most → HasServed count given gave old new before after earlier later
     → HasGivenMore gave gives 0 → HasServed most given gives old new before after earlier later
 HasServed-all count most given gave gives old new before after earlier later within served none = record {
   sessions = served.sessions;

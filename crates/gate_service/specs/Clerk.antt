@@ -11,7 +11,7 @@ use Rattle.gate_session.specs.declared.answer.Answer.TheVariants as answers
 use Rattle.reply_book.specs.declared.entry.Entry.{Entry}
 use Rattle.reply_book.specs.Legal.{history_of}
 use Rattle.tap_desk.specs.declared.desk.Enquiry.{Enquiry}
-use Rattle.tap_desk.specs.Desks.{Known}
+use Rattle.tap_desk.specs.Desks.{DeskState}
 use Rattle.tap_desk.specs.Listed.{BeginsWith}
 use Rattle.tap_office.specs.declared.fault.SubmitFault.{SubmitFault}
 use Rattle.tap_office.specs.declared.receipt.Filed.{Filed}
@@ -21,13 +21,13 @@ use Rattle.tap_office.specs.Given.{IsLegalFor}
 use Rattle.tap_office.specs.Name.{Opened}
 use Rattle.tap_office.specs.Seat.{SeatState}
 
--- what a clerk has: its seat, and its desk with the list that it saw last and its notes
+-- what a clerk has: its seat, and its desk with the list that it saw last and its log points
 pub record ClerkState : Type 0 where
   pub seat : SeatState
-  pub desk : Known
+  pub desk : DeskState
 
 -- a clerk at this seat and desk
-abbrev pub clerk_at : SeatState → Known → ClerkState
+abbrev pub clerk_at : SeatState → DeskState → ClerkState
 clerk_at seat desk = record { seat = seat; desk = desk }
 
 -- a seat goes on over so many requests: its number is the same, its earlier receipts come first,
@@ -38,30 +38,30 @@ pub record GoesOn (requests : ℕ) (before after : SeatState) : Type 0 where
   pub receipts : after.receipts ≡ before.receipts ++ later
   pub few : length later ≤ requests
 
--- a desk goes on over so many requests: its list begins with the one before, the notes before are
--- still there, and by no request it learnt more than one
-pub record DeskGoesOn (requests : ℕ) (before after : Known) : Type 0 where
+-- a desk goes on over so many requests: its list begins with the one before, the log points before
+-- are still there, and by no request it learnt more than one
+pub record DeskGoesOn (requests : ℕ) (before after : DeskState) : Type 0 where
   pub list : IsPrefix before.list after.list
   pub newer : List (List Entry)
-  pub notes : after.notes ≡ newer ++ before.notes
+  pub points : after.points ≡ newer ++ before.points
   pub few : length newer ≤ requests
 
--- a touch is answered by the reply that stands beside it, under its gate and number, in the note
--- that the desk learnt; the note is legal, begins with what the opening found, is as long as the
--- seat has seen then, and no shorter than it had seen before
+-- a touch is answered by the reply that stands beside it, under its gate and number, in the log
+-- point that the desk learnt; the log point is legal, begins with what the opening found, is as
+-- long as the seat has seen then, and no shorter than it had seen before
 pub record IsReplied (opened : Opened) (before after : ClerkState) (touch : Touch) (answer : Answer)
     : Type 0 where
-  pub note : List Entry
-  pub legal : IsLegalFor opened (history_of note)
-  pub begins : take (length opened.recovered) note ≡ opened.recovered
+  pub point : List Entry
+  pub legal : IsLegalFor opened (history_of point)
+  pub begins : take (length opened.recovered) point ≡ opened.recovered
   pub place : ℕ
   pub reply : Reply
   pub seat : ℕ
-  pub stands : slice_get note place ≡ Some (record { touch = touch; reply = reply; seat = seat })
-  pub seen : after.seat.seen ≡ length note
+  pub stands : slice_get point place ≡ Some (record { touch = touch; reply = reply; seat = seat })
+  pub seen : after.seat.seen ≡ length point
   pub not_below : before.seat.seen ≤ after.seat.seen
   pub goes_on : GoesOn 1 before.seat after.seat
-  pub learnt : after.desk.notes ≡ note ∷ before.desk.notes
+  pub learnt : after.desk.points ≡ point ∷ before.desk.points
   pub list : after.desk.list ≡ before.desk.list
   pub is : answer ≡ answers.Reply touch.gate touch.number reply
 
@@ -73,22 +73,22 @@ pub record IsRefused (before after : ClerkState) (touch : Touch) (answer : Answe
   pub desk : after.desk ≡ before.desk
 
 -- an enquiry is answered by what is seen of the card after the desk's list, and by its length; that
--- list begins with the one before and with each of the notes
+-- list begins with the one before and with each of the log points
 pub record IsTold (opened : Opened) (before after : ClerkState) (card : ℕ) (answer : Answer)
     : Type 0 where
   pub enquiry : Enquiry
   pub from : IsAnswerFrom opened after.desk.list card enquiry
   pub is : answer ≡ answers.Holding enquiry.view enquiry.front
   pub list : IsPrefix before.desk.list after.desk.list
-  pub begins : BeginsWith before.desk.notes after.desk.list
-  pub notes : after.desk.notes ≡ before.desk.notes
+  pub begins : BeginsWith before.desk.points after.desk.list
+  pub points : after.desk.points ≡ before.desk.points
   pub kept : after.seat ≡ before.seat
 
 -- an enquiry for which the desk has no answer is answered by fault 3 of gate 0 and number 0
 pub record IsUntold (before after : ClerkState) (answer : Answer) : Type 0 where
   pub is : answer ≡ answers.Fault 3 0 0
   pub list : after.desk.list ≡ before.desk.list
-  pub notes : after.desk.notes ≡ before.desk.notes
+  pub points : after.desk.points ≡ before.desk.points
   pub kept : after.seat ≡ before.seat
 
 -- what a request is given

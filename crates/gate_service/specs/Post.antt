@@ -2,7 +2,7 @@
 use Rattle.std.specs.Prelude.{◌≡◌, ◌+◌, ◌≤◌, ℕ, List, All, Option, Some, None, length}
 use Rattle.gate_session.specs.declared.session.Served.{Served}
 use Rattle.gate_session.specs.Session.{HasCounted}
-use Rattle.tap_desk.specs.Desks.{Known}
+use Rattle.tap_desk.specs.Desks.{DeskState}
 use Rattle.tap_office.specs.Seat.{SeatState}
 use Rattle.gate_service.specs.declared.tally.Tally.{Tally}
 use Rattle.gate_service.specs.Clerk.{GoesOn, DeskGoesOn}
@@ -17,7 +17,7 @@ HasGivenMore (Some before) (Some after) count = after ≡ before + count
 -- a line's post served some sessions, so many at most, one for each connection that the line gave;
 -- each is counted in the tally, and the seat and the desk go on over their requests
 pub record HasServed (connections : ℕ) (given gives : Option ℕ) (old new : Tally)
-    (before after : SeatState) (earlier later : Known) : Type 0 where
+    (before after : SeatState) (earlier later : DeskState) : Type 0 where
   pub sessions : List Served
   pub few : length sessions ≤ connections
   pub given_more : HasGivenMore given gives (length sessions)

@@ -13,10 +13,10 @@ use Rattle.reply_book.specs.Legal.{history_of, judge_after}
 use Rattle.reply_book.specs.View.{view_after}
 use Rattle.tap_desk.specs.declared.shown.Published.{Published}
 use Rattle.tap_desk.specs.declared.shown.Update.{Update}
-use Rattle.tap_desk.specs.declared.story.Story.{Story}
+use Rattle.tap_desk.specs.declared.commit_log.CommitLog.{CommitLog}
 use Rattle.tap_desk.specs.declared.writer.HeldWriter.{HeldWriter}
-use Rattle.tap_desk.specs.Story.{told, table_of}
-use Rattle.tap_desk.specs.Pages.{list_of, IsOf}
+use Rattle.tap_desk.specs.CommitLog.{logged, table_of}
+use Rattle.tap_desk.specs.CopyVersions.{list_of, IsOf}
 use Rattle.tap_desk.specs.Waiting.{shown_of, waits_of, seen_of, OneWaits}
 
 -- the list that is published, and the lists that wait to be
@@ -26,7 +26,7 @@ pub record Publication : Type 0 where
 
 -- the lists of the updates
 abbrev pub lists_of : List Update → List (List Entry)
-lists_of updates = map (λ update. list_of update.page) updates
+lists_of updates = map (λ update. list_of update.version) updates
 
 -- the entry that a touch from a seat comes to after those of the book
 abbrev pub entry_after : Book → Touch → ℕ → Entry
@@ -52,21 +52,21 @@ pub record AreViewsOf (book : Book) (views : List CardView) : Type 0 where
   pub count : length views ≡ cards_of book
   pub each : IsEachViewOf book views
 
--- one update waits, and is of the named story where the publisher is
+-- one update waits, and is of the named commit log where the publisher is
 pub record IsStaged (shown : Published) (named : Bool) (waiting : List Update) : Type 0 where
   pub one : OneWaits shown waiting
-  pub named_too : named ≡ true → one.update.page.named ≡ true
+  pub named_too : named ≡ true → one.update.version.named ≡ true
 
--- the story tells what is shown, by the tables of the name, and where it is the named one, it is
--- the name's and the page's; its steps are no more than the entries; the writer saw what is shown;
--- and nothing waits, or one update
+-- the commit log is of what is shown, by the tables of the name, and where it is the named one, it
+-- is the name's and the version's; its steps are no more than the entries; the writer saw what is
+-- shown; and nothing waits, or one update
 pub record IsPublished (logbook : Logbook) (table : Option (Tables × ℕ)) (held : HeldWriter)
-    (story : Story) (named : Bool) : Type 0 where
-  pub tells : told story.seen.log ≡ list_of (shown_of held).page
-  pub by : table_of story.seen.log ≡ table
-  pub page : IsOf logbook table (shown_of held).page
+    (commit_log : CommitLog) (named : Bool) : Type 0 where
+  pub logs : logged commit_log.seen.log ≡ list_of (shown_of held).version
+  pub by : table_of commit_log.seen.log ≡ table
+  pub version : IsOf logbook table (shown_of held).version
   pub is_named :
-      named ≡ true → (story.seen.book ≡ logbook) × ((shown_of held).page.named ≡ true)
-  pub steps : story.steps ≤ length (told story.seen.log)
-  pub saw : seen_of held ≡ (shown_of held).page ∷ []
+      named ≡ true → (commit_log.seen.book ≡ logbook) × ((shown_of held).version.named ≡ true)
+  pub steps : commit_log.steps ≤ length (logged commit_log.seen.log)
+  pub seen_is : seen_of held ≡ (shown_of held).version ∷ []
   pub waits : (waits_of held ≡ []) ⊎ IsStaged (shown_of held) named (waits_of held)

@@ -1,5 +1,6 @@
 -- Powers of two that add up to all below a power are each of them once, where there are no more of them than that.
-use Rattle.std.proofs.Common.{◌≡◌, ℕ, zero, suc, ◌+◌, ◌-◌, ◌*◌, ◌^◌, ◌≤◌, List, [], ◌∷◌, length, refl, ◌∙◌, arith, pow-suc, pow_pos}
+use Rattle.std.proofs.Common.{◌≡◌, ℕ, zero, suc, ◌+◌, ◌-◌, ◌*◌, ◌^◌, ◌≤◌, List, [], ◌∷◌, length, refl, ◌∙◌, arith}
+use Rattle.std.proofs.Common.{pow-suc, pow_pos}
 use Rattle.std.proofs.lemmas.Bool.Decides.{nat_tests}
 use Rattle.tap_office.specs.Close.{times}
 

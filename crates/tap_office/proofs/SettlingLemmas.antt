@@ -1,5 +1,6 @@
 -- A book whose receipts all stand, with as many new entries as receipts, is settled.
-use Rattle.std.proofs.Common.{◌≡◌, ℕ, zero, suc, ◌+◌, ◌-◌, ◌^◌, ◌<◌, ◌≤◌, List, [], ◌∷◌, ◌++◌, length, take, drop, refl, sym, ap, ◌∙◌, subst, arith, length-append, take-append-drop}
+use Rattle.std.proofs.Common.{◌≡◌, ℕ, zero, suc, ◌+◌, ◌-◌, ◌^◌, ◌<◌, ◌≤◌, List, [], ◌∷◌, ◌++◌, length, take, drop, refl}
+use Rattle.std.proofs.Common.{sym, ap, ◌∙◌, subst, arith, length-append, take-append-drop}
 use Rattle.std.proofs.lemmas.Bool.Decides.{nat_tests}
 use Rattle.std.proofs.lemmas.List.Elements.{recursion_from_All, All-from_recursion}
 use Rattle.std.proofs.lemmas.List.Sums.{sum_by-cons}
@@ -8,7 +9,8 @@ use Rattle.reply_book.specs.declared.entry.Entry.{Entry}
 use Rattle.tap_office.specs.Seat.{SeatState}
 use Rattle.tap_office.specs.Close.{filed_by, times, numbers, Settles, IsReady}
 use Rattle.tap_office.proofs.PowerLemmas.{powers, lowered, below, length_lowered, times_lowered, each_once}
-use Rattle.tap_office.proofs.CountingLemmas.{stand_from, fits, seats_of, length_filed, times-append, all_times, counts_once, each_counted}
+use Rattle.tap_office.proofs.CountingLemmas.{stand_from, fits, seats_of, length_filed, times-append, all_times}
+use Rattle.tap_office.proofs.CountingLemmas.{counts_once, each_counted}
 
 abbrev weight : SeatState → ℕ
 weight l = 2 ^ (l.number - 1)

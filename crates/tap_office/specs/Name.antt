@@ -16,8 +16,8 @@ pub record Opened : Type 0 where
   -- which ledger counts the receipts, and which the seats' numbers
   pub receipts : ℕ
   pub numbers : ℕ
-  -- which logbook tells the history
-  pub story : Logbook
+  -- which logbook is the commit log of the history
+  pub commit_log : Logbook
   -- the fare tables that touches are judged by, for how many cards; none where none was opened
   pub table : Option (Tables × ℕ)
 
@@ -29,16 +29,16 @@ nothing_opened = record {
   seats = 0;
   receipts = 0;
   numbers = 0;
-  story = record { number = 0; log_name = 0; cells_name = 0 };
+  commit_log = record { number = 0; log_name = 0; cells_name = 0 };
   table = None;
 }
 
 -- the name stands for this opening, its own ledger is the one that counts the receipts, and its
--- own story and table are those of the opening
-pub record IsNameOf (opened : Opened) (ledger parts : ℕ) (story : Logbook)
+-- own commit log and table are those of the opening
+pub record IsNameOf (opened : Opened) (ledger parts : ℕ) (commit_log : Logbook)
     (table : Option (Tables × ℕ)) (opening : Opened) : Type 0 where
   pub is : opened ≡ opening
   pub counts : ledger ≡ opening.receipts
   pub shares : parts ≡ opening.seats
-  pub told : story ≡ opening.story
+  pub log_is : commit_log ≡ opening.commit_log
   pub by : table ≡ opening.table

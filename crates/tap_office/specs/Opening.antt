@@ -24,9 +24,9 @@ use Rattle.reply_book.specs.Tables.{Tables, AreKnown}
 use Rattle.reply_book.specs.Replay.{IsRepeatedAt, IsMissingAt}
 use Rattle.reply_book.specs.Book.{entries_of, cards_of, tables_of, Stands as BookStands}
 use Rattle.reply_book.specs.Legal.{touches_of, history_of, IsLegal}
-use Rattle.tap_desk.specs.declared.story.Story.{Story}
-use Rattle.tap_desk.specs.Story.{told, table_of}
-use Rattle.tap_desk.specs.Desks.{Known}
+use Rattle.tap_desk.specs.declared.commit_log.CommitLog.{CommitLog}
+use Rattle.tap_desk.specs.CommitLog.{logged, table_of}
+use Rattle.tap_desk.specs.Desks.{DeskState}
 use Rattle.tap_office.specs.declared.opening.TheConstants.{SEAT_LIMIT}
 use Rattle.tap_office.specs.Name.{Opened}
 use Rattle.tap_office.specs.Seat.{SeatState, fresh_seat}
@@ -36,7 +36,7 @@ abbrev pub header_by : ℕ → ℕ → Tables → Header
 header_by capacity cards tables = header_of capacity cards (digest_of tables.first)
 
 -- an opening: the fare tables, the journal's header, the history that was found, how many seats are
--- to be made, the two ledgers, the logbook that tells the history, and the disk
+-- to be made, the two ledgers, the logbook of the history, and the disk
 pub record OpeningState (D : Type 0) : Type 0 where
   pub tables : Tables
   pub header : Header
@@ -44,7 +44,7 @@ pub record OpeningState (D : Type 0) : Type 0 where
   pub seats : ℕ
   pub receipts : ℕ
   pub numbers : ℕ
-  pub story : Logbook
+  pub commit_log : Logbook
   pub disk : D
 
 -- what a name of the opening stands for
@@ -55,7 +55,7 @@ opened_of opening = record {
   seats = opening.seats;
   receipts = opening.receipts;
   numbers = opening.numbers;
-  story = opening.story;
+  commit_log = opening.commit_log;
   table = Some (opening.tables, opening.header.cards);
 }
 
@@ -125,16 +125,17 @@ IsWant fault = (fault ≡ Memory) ⊎ (fault ≡ Device)
 abbrev pub IsShort : JournalFault → Type 0
 IsShort fault = (fault ≡ Memory) ⊎ (fault ≡ NoDesk)
 
--- there are so many desks, whose list is the history that was found, without notes
-pub record AreNewDesks (count : ℕ) (recovered : List Entry) (desks : List Known) : Type 0 where
+-- there are so many desks, whose list is the history that was found, without log points
+pub record AreNewDesks (count : ℕ) (recovered : List Entry) (desks : List DeskState) : Type 0 where
   pub all : length desks ≡ count
-  pub each : All (λ desk. desk ≡ record { list = recovered; notes = [] }) desks
+  pub each : All (λ desk. desk ≡ record { list = recovered; points = [] }) desks
 
--- the story has just begun, with the entries of the book and the tables by which they are judged
-pub record IsTold (book : Book) (story : Story) : Type 0 where
-  pub tells : told story.seen.log ≡ entries_of book
-  pub by : table_of story.seen.log ≡ Some (tables_of book, cards_of book)
-  pub fresh : story.steps ≡ 0
+-- the commit log has just begun, with the entries of the book and the tables by which they are
+-- judged
+pub record IsLogOf (book : Book) (commit_log : CommitLog) : Type 0 where
+  pub logs : logged commit_log.seen.log ≡ entries_of book
+  pub by : table_of commit_log.seen.log ≡ Some (tables_of book, cards_of book)
+  pub fresh : commit_log.steps ≡ 0
 
 -- there are so many seats, without receipts and numbered from 1 on
 pub record AreFresh (count : ℕ) (seats : List SeatState) : Type 0 where

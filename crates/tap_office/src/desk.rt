@@ -2,9 +2,9 @@
 ghost use Rattle.std.specs.Prelude.{◌≡◌, ◌∷◌, [], IfOk, IfErr, IfSome, IfNone};
 ghost use mathlib.Core.List.{IsPrefix};
 ghost use Rattle.reply_book.specs.Book.{entries_of, cards_of};
-ghost use Rattle.tap_desk.specs.Story.{told, table_of};
+ghost use Rattle.tap_desk.specs.CommitLog.{logged, table_of};
 ghost use Rattle.tap_desk.specs.Listed.{BeginsWith};
-ghost use Rattle.tap_desk.specs.Notes.{told_by};
+ghost use Rattle.tap_desk.specs.LogPoints.{logged_at};
 ghost use Rattle.tap_desk.specs.Publishing.{IsTableOf};
 ghost use Rattle.tap_office.specs.Enquiry.{IsTableFor, IsAnswerFrom};
 ghost use Rattle.tap_office.specs.Opening.{AreNewDesks, IsShort};
@@ -15,13 +15,13 @@ use reply_book::Book;
 use std::alloc::Global;
 use std::marker::Model;
 use std::sync::Wait;
-use tap_desk::{Enquiry, Publisher, Story};
+use tap_desk::{CommitLog, Enquiry, Publisher};
 use tap_journal::JournalFault;
 
 /// From where balances are asked for: an opening makes one for each seat.
 ///
 /// Contracts see it as its list, what its last answered enquiry saw (the recovered history at
-/// first), beside its notes, those of the receipts that it learnt.
+/// first), and its log points, those of the receipts that it learnt.
 pub struct Desk<N: Named> {
     desk: tap_desk::Desk<N>,
 }
@@ -35,10 +35,10 @@ impl<N: Named> Drop for Desk<N> {
 
 impl<N: Named> Model for Desk<N> {
     ghost use mathlib.Core.List.{IsPrefix};
-    ghost use Rattle.tap_desk.specs.Desks.{Known};
+    ghost use Rattle.tap_desk.specs.Desks.{DeskState};
     ghost use Rattle.tap_office.specs.Enquiry.{IsTableFor};
 
-    ghost Value = { Known };
+    ghost Value = { DeskState };
 
     ghost view = { λ d. d.desk };
 
@@ -56,47 +56,47 @@ impl<N: Named> Desk<N> {
         Desk { desk }
     }
 
-    /// Adds the receipt's note to the desk's notes: no later answer is of less. The receipt's
+    /// Adds the receipt's log point to the desk's: no later answer is of less. The receipt's
     /// numbers, touch and reply are read before.
     pub fn learn(&mut self, receipt: Receipt<N>)
         ensures list { self.new.list ≡ self.old.list }
-        ensures notes { self.new.notes ≡ told_by receipt.note ∷ self.old.notes }
+        ensures points { self.new.points ≡ logged_at receipt.point ∷ self.old.points }
     {
-        self.desk.learn(receipt.note);
+        self.desk.learn(receipt.point);
     }
 
     /// What is seen of a card after all entries that are published, and how many these are. A
     /// number that no card has is vacant, with nothing on it.
     ///
     /// The answer is of a legal history that begins with the recovered one, with what this desk
-    /// answered from before, and with each note that it learnt. No lock is taken, and no memory.
-    /// None comes once the office is closed; tests show that it comes only then.
+    /// answered from before, and with each log point that it learnt. No lock is taken, and no
+    /// memory. None comes once the office is closed; tests show that it comes only then.
     pub fn enquire(&mut self, card: u32) -> Option<Enquiry>
         ensures answer { IfSome result (IsAnswerFrom N.opened self.new.list card) }
         ensures list { IfSome result (λ _. IsPrefix self.old.list self.new.list) }
-        ensures begins { IfSome result (λ _. BeginsWith self.old.notes self.new.list) }
-        ensures notes { self.new.notes ≡ self.old.notes }
+        ensures begins { IfSome result (λ _. BeginsWith self.old.points self.new.list) }
+        ensures points { self.new.points ≡ self.old.points }
         ensures none { IfNone result (self.new.list ≡ self.old.list) }
     {
         self.desk.enquire(card)
     }
 }
 
-/// Publishes the entries of a book, whose story this is, and makes so many desks.
+/// Publishes the entries of a book, whose commit log this is, and makes so many desks.
 ///
 /// `Memory` comes where it was refused, and `NoDesk` where there was no place for a desk.
 pub(crate) fn open_desks<N: Named, R: Wait>(
     alloc: Global,
     rt: &R,
-    story: Story,
+    commit_log: CommitLog,
     book: &Book,
     cards: u32,
     count: u16,
 ) -> Result<(Publisher<N>, Vec<Desk<N>>), JournalFault>
-    requires told { told story.seen.log ≡ entries_of book.now }
-    requires by { table_of story.seen.log ≡ N.table }
-    requires fresh { story.steps ≡ 0 }
-    requires named { story.seen.book ≡ N.story }
+    requires logged { logged commit_log.seen.log ≡ entries_of book.now }
+    requires by { table_of commit_log.seen.log ≡ N.table }
+    requires fresh { commit_log.steps ≡ 0 }
+    requires named { commit_log.seen.book ≡ N.commit_log }
     requires table { IsTableOf N.table book.now }
     requires cards { cards ≡ cards_of book.now }
     requires found { entries_of book.now ≡ N.opened.recovered }
@@ -106,7 +106,7 @@ pub(crate) fn open_desks<N: Named, R: Wait>(
     ensures desks { IfOk result (λ r. AreNewDesks count (entries_of book.now) r.1.items) }
     ensures fault { IfErr result IsShort }
 {
-    let Ok(mut publisher) = Publisher::open(alloc, rt, story, book, cards, count) else {
+    let Ok(mut publisher) = Publisher::open(alloc, rt, commit_log, book, cards, count) else {
         return Err(JournalFault::Memory);
     };
     match make_desks(alloc, &mut publisher, count) {

@@ -2,8 +2,8 @@
 ghost use Rattle.std.specs.Prelude.{◌≡◌, ◌≢◌, ◌↔◌, ◌≤◌, length, IfOk, OnErr, MatchResult};
 ghost use Rattle.std.specs.List.{All};
 ghost use Rattle.reply_book.specs.Book.{entries_of};
-ghost use Rattle.tap_desk.specs.Notes.{told_by};
-ghost use Rattle.tap_office.specs.Receipt.{IsNote, Files};
+ghost use Rattle.tap_desk.specs.LogPoints.{logged_at};
+ghost use Rattle.tap_office.specs.Receipt.{IsPoint, Files};
 ghost use Rattle.tap_office.specs.Keeper.{IsHaltedByDisk};
 ghost use Rattle.tap_office.specs.Close.{AreAtPlaces, Settles, IsEnd};
 
@@ -75,7 +75,7 @@ impl<N: Named, D: Disk> Office<N, D> {
         touch: Touch,
     ) -> Result<Receipt<N>, SubmitFault>
         ensures files { IfOk result (Files touch seat.old seat.new) }
-        ensures note { IfOk result (λ r. IsNote N.opened (told_by r.note) r) }
+        ensures point { IfOk result (λ r. IsPoint N.opened (logged_at r.point) r) }
         ensures kept { OnErr result (seat.new ≡ seat.old) }
     {
         seat.make_room();

@@ -1,11 +1,11 @@
 //! What a commit answers, and what a seat keeps of it.
 ghost use Rattle.std.specs.Prelude.{◌≡◌, ◌<◌, ◌+◌, ◌-◌, ◌^◌, true, false};
-ghost use Rattle.tap_desk.specs.Notes.{told_by};
+ghost use Rattle.tap_desk.specs.LogPoints.{logged_at};
 ghost use Rattle.tap_office.specs.Receipt.{filed_of};
 
 use crate::name::Named;
 use oyster_account::{Reply, Touch};
-use tap_desk::Note;
+use tap_desk::LogPoint;
 
 /// What a seat keeps of a touch that it committed: its place in the history, counted from 0, with
 /// the touch and its reply.
@@ -32,7 +32,7 @@ pub struct Receipt<N: Named> {
     /// Whether the touch is new: it isn't where it is a repeat.
     pub fresh: bool,
     /// What was published then.
-    pub(crate) note: Note<N>,
+    pub(crate) point: LogPoint<N>,
 }
 
 impl<N: Named> Receipt<N> {
@@ -47,15 +47,15 @@ impl<N: Named> Receipt<N> {
         }
     }
 
-    /// The receipt of a new touch at the end of the history, which the note tells.
-    pub(crate) fn first(filed: Filed, note: Note<N>) -> Receipt<N>
+    /// The receipt of a new touch at the end of the history, which the log point is of.
+    pub(crate) fn first(filed: Filed, point: LogPoint<N>) -> Receipt<N>
         requires { filed.place < 2 ^ 32 - 1 }
         ensures place { result.place ≡ filed.place }
         ensures front { result.front ≡ filed.place + 1 }
         ensures touch { result.touch ≡ filed.touch }
         ensures reply { result.reply ≡ filed.reply }
         ensures fresh { result.fresh ≡ true }
-        ensures note { told_by result.note ≡ told_by note }
+        ensures point { logged_at result.point ≡ logged_at point }
     {
         Receipt {
             place: filed.place,
@@ -63,18 +63,18 @@ impl<N: Named> Receipt<N> {
             touch: filed.touch,
             reply: filed.reply,
             fresh: true,
-            note,
+            point,
         }
     }
 
     /// The receipt of a repeat, where the history has this front.
-    pub(crate) fn again(filed: Filed, front: u32, note: Note<N>) -> Receipt<N>
+    pub(crate) fn again(filed: Filed, front: u32, point: LogPoint<N>) -> Receipt<N>
         ensures place { result.place ≡ filed.place }
         ensures front { result.front ≡ front }
         ensures touch { result.touch ≡ filed.touch }
         ensures reply { result.reply ≡ filed.reply }
         ensures fresh { result.fresh ≡ false }
-        ensures note { told_by result.note ≡ told_by note }
+        ensures point { logged_at result.point ≡ logged_at point }
     {
         Receipt {
             place: filed.place,
@@ -82,7 +82,7 @@ impl<N: Named> Receipt<N> {
             touch: filed.touch,
             reply: filed.reply,
             fresh: false,
-            note,
+            point,
         }
     }
 }

@@ -128,7 +128,7 @@ fn serve_opening<
     zone: Option<Zone>,
     asked: &Serve<'_>,
 ) -> Result<ExitCode, CommandFault>
-    requires name { IsNameOf N.opened N.name N.parts N.story N.table (opened_of opening) }
+    requires name { IsNameOf N.opened N.name N.parts N.commit_log N.table (opened_of opening) }
     requires allowed { IsServeAllowed asked.now }
 {
     let alloc = rt.alloc();

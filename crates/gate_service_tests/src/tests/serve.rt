@@ -85,7 +85,7 @@ fn serve_lines<'a, N: Named + Send + Sync, R: AllocGlobal + Clock + Threads + Wa
     scripts: &'a [Script],
     heard: &'a Heard,
 ) -> Result<(Vec<Tally>, u32), Fail>
-    requires { IsNameOf N.opened N.name N.parts N.story N.table (opened_of opening) }
+    requires { IsNameOf N.opened N.name N.parts N.commit_log N.table (opened_of opening) }
 {
     let (office, seats, desks) = opening
         .office::<N, R>(rt, rt.alloc())

@@ -154,7 +154,7 @@ fn sessions<N: Named, R: Wait>(
     first: Trial,
     second: Trial,
 ) -> Option<Outcomes>
-    requires { IsNameOf N.opened N.name N.parts N.story N.table (opened_of opening) }
+    requires { IsNameOf N.opened N.name N.parts N.commit_log N.table (opened_of opening) }
 {
     let (office, seats, desks) = opening.office::<N, R>(rt, alloc).ok()?;
     let mut seats = seats;

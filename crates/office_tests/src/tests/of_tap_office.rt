@@ -13,6 +13,7 @@ mod threads;
 ghost use Rattle.std.specs.Prelude.{◌≡◌, [], IfSome};
 ghost use Rattle.fare_schedule.specs.Schedule.{revisions_of};
 
+use super::assert_same;
 use fare_schedule::Schedule;
 use fare_table::{EXAMPLE_TABLE, Fares};
 use oyster_account::{Act, CardState, CardView, Reply, Touch};
@@ -24,11 +25,6 @@ use tap_desk::Enquiry;
 use tap_disk::{Choice, MemoryDisk};
 use tap_journal::{Journal, OpenFault};
 use tap_office::{CloseCause, CloseFault, Closed, Opening, SubmitFault};
-
-/// These are equal.
-fn assert_same<T: PartialEq + Debug + Copy>(rt: &impl Abort, found: T, want: T) {
-    assert_eq!(rt; found, want);
-}
 
 /// These are equal, in this case.
 fn assert_same_at<T: PartialEq + Debug + Copy, C: Debug + Copy>(

@@ -21,7 +21,7 @@ const ENQUIRIES: u32 = 3000;
 #[derive(Drop)]
 struct Log {
     /// The answers that were of more entries than the one before.
-    heard: Vec<Enquiry>,
+    answered: Vec<Enquiry>,
     /// How many answers there were.
     answers: u32,
     /// How many answers were of less than there had been, or were none.
@@ -41,14 +41,14 @@ impl Log {
             return;
         };
         self.answers = self.answers.saturating_add(1);
-        let last = match self.heard.last() {
-            Some(heard) => heard.front,
+        let last = match self.answered.last() {
+            Some(last) => last.front,
             None => 0,
         };
         if answer.front < last || answer.front < least {
             self.blame();
         }
-        if answer.front > last && self.heard.push(answer).is_err() {
+        if answer.front > last && self.answered.push(answer).is_err() {
             self.blame();
         }
     }
@@ -147,7 +147,7 @@ fn workers_of<N: Named>(
             desk: desks.pop().expect(rt, "a desk is missing"),
             commits: number <= 2,
             log: Log {
-                heard: Vec::new(alloc),
+                answered: Vec::new(alloc),
                 answers: 0,
                 wrong: 0,
             },
@@ -164,21 +164,21 @@ fn assert_answered<N: Named>(rt: &impl Abort, worker: &Worker<N>) {
     assert_same(rt, worker.log.answers, answers);
 }
 
-/// The workers' seats, and what each worker heard.
+/// The workers' seats, and what each worker was answered.
 fn left_by<N: Named>(
     rt: &impl Abort,
     alloc: Global,
     workers: Vec<Worker<N>>,
 ) -> (Vec<Seat<N>>, Vec<Vec<Enquiry>>) {
     let mut seats = Vec::new(alloc);
-    let mut heard = Vec::new(alloc);
+    let mut answered = Vec::new(alloc);
     for worker in workers {
         assert_answered(rt, &worker);
         let Worker { seat, log, .. } = worker;
         seats.push(seat).ok().expect(rt, "memory");
-        heard.push(log.heard).ok().expect(rt, "memory");
+        answered.push(log.answered).ok().expect(rt, "memory");
     }
-    (seats, heard)
+    (seats, answered)
 }
 
 /// The touches of a book, oldest first.
@@ -191,13 +191,13 @@ fn touches_in(alloc: Global, book: &Book) -> Option<Vec<Touch>> {
 }
 
 /// Two gates commit beside two desks that ask. It answers the touches of the history at the end,
-/// and what each desk heard.
+/// and what each desk was answered.
 fn commit_and_ask<N: Named + Send + Sync, R: Threads + Wait + Sync + Abort>(
     rt: &R,
     alloc: Global,
     opening: Opening<MemoryDisk>,
 ) -> (Vec<Touch>, Vec<Vec<Enquiry>>)
-    requires { IsNameOf N.opened N.name N.parts N.story N.table (opened_of opening) }
+    requires { IsNameOf N.opened N.name N.parts N.commit_log N.table (opened_of opening) }
 {
     let (office, seats, desks) = opening
         .office::<N, R>(rt, alloc)
@@ -206,13 +206,13 @@ fn commit_and_ask<N: Named + Send + Sync, R: Threads + Wait + Sync + Abort>(
     let mut workers = workers_of(rt, alloc, seats, desks);
     assert!(rt; !workers.is_empty());
     work_all(rt, &office, workers.as_mut_slice());
-    let (seats, heard) = left_by(rt, alloc, workers);
+    let (seats, answered) = left_by(rt, alloc, workers);
     let closed = office
         .close(rt, seats)
         .ok()
         .expect(rt, "the office wasn't closed");
     let touches = touches_in(alloc, &closed.book).expect(rt, "an entry is missing");
-    (touches, heard)
+    (touches, answered)
 }
 
 /// What is seen of card 1 after these touches, of which a book can hold a million.
@@ -236,9 +236,9 @@ fn compare(rt: &impl Abort, alloc: Global, touches: &[Touch], answers: &[Enquiry
     }
 }
 
-/// What each desk heard is so.
-fn compare_all(rt: &impl Abort, alloc: Global, touches: &[Touch], heard: &[Vec<Enquiry>]) {
-    for answers in heard {
+/// What each desk was answered is so.
+fn compare_all(rt: &impl Abort, alloc: Global, touches: &[Touch], answered: &[Vec<Enquiry>]) {
+    for answers in answered {
         compare(rt, alloc, touches, answers);
     }
 }
@@ -250,7 +250,7 @@ fn desks_answer_from_beginnings_of_the_history(rt: HostRuntime) {
     let opening = read(&rt, alloc, disk, CARDS, 4)
         .ok()
         .expect(&rt, "the disk wasn't opened");
-    let (touches, heard) = commit_and_ask::<Brand, HostRuntime>(&rt, alloc, opening);
+    let (touches, answered) = commit_and_ask::<Brand, HostRuntime>(&rt, alloc, opening);
     assert_same(&rt, touches.len(), 41);
-    compare_all(&rt, alloc, &touches, &heard);
+    compare_all(&rt, alloc, &touches, &answered);
 }

@@ -79,7 +79,7 @@ fn through_a_crash<N: Named, R: Wait + Abort>(
     opening: Opening<MemoryDisk>,
     choice: Choice,
 ) -> Option<Opening<MemoryDisk>>
-    requires name { IsNameOf N.opened N.name N.parts N.story N.table (opened_of opening) }
+    requires name { IsNameOf N.opened N.name N.parts N.commit_log N.table (opened_of opening) }
     requires file { AreReadFrom (EXAMPLE_TABLE.now ∷ []) (listed opening.tables) }
 {
     let (office, mut seats, _desks) = opening.office::<N, R>(rt, alloc).ok()?;

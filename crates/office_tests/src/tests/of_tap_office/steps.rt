@@ -47,8 +47,8 @@ fn learn<N: Named>(rt: &impl Abort, desk: &mut Desk<N>, receipt: Receipt<N>) -> 
         Answer::Again(place, receipt.reply)
     };
     desk.learn(receipt);
-    let heard = desk.enquire(1).expect(rt, "a desk had no answer");
-    assert_that(rt, place < heard.front);
+    let enquiry = desk.enquire(1).expect(rt, "a desk had no answer");
+    assert_that(rt, place < enquiry.front);
     answer
 }
 
@@ -141,7 +141,7 @@ fn work_through<N: Named, R: Wait + Abort>(
     steps: &[Step],
     kept_back: usize,
 ) -> Result<(Outcome, MemoryDisk), OpenFault<MemoryDisk>>
-    requires { IsNameOf N.opened N.name N.parts N.story N.table (opened_of opening) }
+    requires { IsNameOf N.opened N.name N.parts N.commit_log N.table (opened_of opening) }
 {
     let (office, mut seats, desks) = opening.office::<N, R>(rt, alloc)?;
     let (mut learner, mut desk) = two_desks(rt, desks);

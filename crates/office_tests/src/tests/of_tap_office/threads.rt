@@ -169,7 +169,7 @@ fn two_gates<N: Named + Send + Sync, R: Threads + Wait + Sync + Abort>(
     alloc: Global,
     opening: Opening<MemoryDisk>,
 ) -> Shared
-    requires { IsNameOf N.opened N.name N.parts N.story N.table (opened_of opening) }
+    requires { IsNameOf N.opened N.name N.parts N.commit_log N.table (opened_of opening) }
 {
     let (office, seats, desks) = opening
         .office::<N, R>(rt, alloc)

@@ -9,6 +9,6 @@ ghosts-serve_opening-N-Named g a = record { opened = opened_of a.opening }
 abbrev pub ghosts-serve_opening-N-Ledger : goal.ghosts-serve_opening-N-Ledger
 ghosts-serve_opening-N-Ledger g a = record { name = a.opening.receipts; parts = a.opening.seats }
 
-abbrev pub ghosts-serve_opening-N-StoryName : goal.ghosts-serve_opening-N-StoryName
-ghosts-serve_opening-N-StoryName g a =
-    record { story = a.opening.story; table = Some (a.opening.tables, a.opening.header.cards) }
+abbrev pub ghosts-serve_opening-N-LogName : goal.ghosts-serve_opening-N-LogName
+ghosts-serve_opening-N-LogName g a =
+    record { commit_log = a.opening.commit_log; table = Some (a.opening.tables, a.opening.header.cards) }

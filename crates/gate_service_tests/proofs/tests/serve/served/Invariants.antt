@@ -8,6 +8,6 @@ ghosts-serve_lines-N-Named g a = record { opened = opened_of a.opening }
 abbrev pub ghosts-serve_lines-N-Ledger : goal.ghosts-serve_lines-N-Ledger
 ghosts-serve_lines-N-Ledger g a = record { name = a.opening.receipts; parts = a.opening.seats }
 
-abbrev pub ghosts-serve_lines-N-StoryName : goal.ghosts-serve_lines-N-StoryName
-ghosts-serve_lines-N-StoryName g a =
-    record { story = a.opening.story; table = Some (a.opening.tables, a.opening.header.cards) }
+abbrev pub ghosts-serve_lines-N-LogName : goal.ghosts-serve_lines-N-LogName
+ghosts-serve_lines-N-LogName g a =
+    record { commit_log = a.opening.commit_log; table = Some (a.opening.tables, a.opening.header.cards) }

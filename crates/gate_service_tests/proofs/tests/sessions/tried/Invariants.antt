@@ -8,6 +8,6 @@ ghosts-sessions-N-Named g a = record { opened = opened_of a.opening }
 abbrev pub ghosts-sessions-N-Ledger : goal.ghosts-sessions-N-Ledger
 ghosts-sessions-N-Ledger g a = record { name = a.opening.receipts; parts = a.opening.seats }
 
-abbrev pub ghosts-sessions-N-StoryName : goal.ghosts-sessions-N-StoryName
-ghosts-sessions-N-StoryName g a =
-    record { story = a.opening.story; table = Some (a.opening.tables, a.opening.header.cards) }
+abbrev pub ghosts-sessions-N-LogName : goal.ghosts-sessions-N-LogName
+ghosts-sessions-N-LogName g a =
+    record { commit_log = a.opening.commit_log; table = Some (a.opening.tables, a.opening.header.cards) }

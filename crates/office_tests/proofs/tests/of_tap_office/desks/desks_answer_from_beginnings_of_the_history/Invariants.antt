@@ -8,6 +8,6 @@ ghosts-commit_and_ask-N-Named g a = record { opened = opened_of a.opening }
 abbrev pub ghosts-commit_and_ask-N-Ledger : goal.ghosts-commit_and_ask-N-Ledger
 ghosts-commit_and_ask-N-Ledger g a = record { name = a.opening.receipts; parts = a.opening.seats }
 
-abbrev pub ghosts-commit_and_ask-N-StoryName : goal.ghosts-commit_and_ask-N-StoryName
-ghosts-commit_and_ask-N-StoryName g a =
-    record { story = a.opening.story; table = Some (a.opening.tables, a.opening.header.cards) }
+abbrev pub ghosts-commit_and_ask-N-LogName : goal.ghosts-commit_and_ask-N-LogName
+ghosts-commit_and_ask-N-LogName g a =
+    record { commit_log = a.opening.commit_log; table = Some (a.opening.tables, a.opening.header.cards) }

@@ -8,6 +8,6 @@ ghosts-through_a_crash-N-Named g a = record { opened = opened_of a.opening }
 abbrev pub ghosts-through_a_crash-N-Ledger : goal.ghosts-through_a_crash-N-Ledger
 ghosts-through_a_crash-N-Ledger g a = record { name = a.opening.receipts; parts = a.opening.seats }
 
-abbrev pub ghosts-through_a_crash-N-StoryName : goal.ghosts-through_a_crash-N-StoryName
-ghosts-through_a_crash-N-StoryName g a =
-    record { story = a.opening.story; table = Some (a.opening.tables, a.opening.header.cards) }
+abbrev pub ghosts-through_a_crash-N-LogName : goal.ghosts-through_a_crash-N-LogName
+ghosts-through_a_crash-N-LogName g a =
+    record { commit_log = a.opening.commit_log; table = Some (a.opening.tables, a.opening.header.cards) }

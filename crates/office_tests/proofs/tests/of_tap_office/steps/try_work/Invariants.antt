@@ -8,6 +8,6 @@ ghosts-work_through-N-Named g a = record { opened = opened_of a.opening }
 abbrev pub ghosts-work_through-N-Ledger : goal.ghosts-work_through-N-Ledger
 ghosts-work_through-N-Ledger g a = record { name = a.opening.receipts; parts = a.opening.seats }
 
-abbrev pub ghosts-work_through-N-StoryName : goal.ghosts-work_through-N-StoryName
-ghosts-work_through-N-StoryName g a =
-    record { story = a.opening.story; table = Some (a.opening.tables, a.opening.header.cards) }
+abbrev pub ghosts-work_through-N-LogName : goal.ghosts-work_through-N-LogName
+ghosts-work_through-N-LogName g a =
+    record { commit_log = a.opening.commit_log; table = Some (a.opening.tables, a.opening.header.cards) }

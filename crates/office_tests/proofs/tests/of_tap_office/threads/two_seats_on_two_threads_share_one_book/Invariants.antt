@@ -8,6 +8,6 @@ ghosts-two_gates-N-Named g a = record { opened = opened_of a.opening }
 abbrev pub ghosts-two_gates-N-Ledger : goal.ghosts-two_gates-N-Ledger
 ghosts-two_gates-N-Ledger g a = record { name = a.opening.receipts; parts = a.opening.seats }
 
-abbrev pub ghosts-two_gates-N-StoryName : goal.ghosts-two_gates-N-StoryName
-ghosts-two_gates-N-StoryName g a =
-    record { story = a.opening.story; table = Some (a.opening.tables, a.opening.header.cards) }
+abbrev pub ghosts-two_gates-N-LogName : goal.ghosts-two_gates-N-LogName
+ghosts-two_gates-N-LogName g a =
+    record { commit_log = a.opening.commit_log; table = Some (a.opening.tables, a.opening.header.cards) }
