@@ -44,6 +44,7 @@ counts_at day dated place = unwrap_or (option_map (is_until day) (slice_get date
 
 -- so many of these have a day that is at most this one: the first, and none behind them
 pub record IsCountOn (day : ℤ) (dated : List Dated) (count : ℕ) : Type 0 where
-  pub first : (place : ℕ) (other : Dated) → place < count → is_until day (get_or dated place other) ≡ true
+  pub first : (place : ℕ) (other : Dated) → place < count
+      → is_until day (get_or dated place other) ≡ true
   pub others : (place : ℕ) (other : Dated) → count ≤ place → place < length dated
       → is_until day (get_or dated place other) ≡ false

@@ -3,6 +3,7 @@
 use Rattle.std.specs.Prelude.{ℕ, ◌+◌, Bool, not, ◌&&◌, ◌==◌, nat_le, is_some}
 use Rattle.std.specs.Prelude.{List, [], ◌∷◌, ◌++◌, Option, Some, None, if◌then◌else◌}
 use Rattle.std.specs.List.{filter_map, flat_map, list_any}
+use Rattle.std.specs.Str.{is_utf8}
 use Rattle.jiff.specs.Words.{read_whole}
 use Rattle.toml.specs.Data.{Data, Members}
 use Rattle.toml.specs.Parse.{parse_document}
@@ -133,3 +134,7 @@ first_fault_of (Some ms) = first (faults ms)
 -- the first fault of a text
 abbrev pub first_fault : List ℕ → Option TableFault
 first_fault text = first_fault_of (parse_document text)
+
+-- the first fault of the table that some bytes hold
+abbrev pub fault_in : List ℕ → Option TableFault
+fault_in bytes = if is_utf8 bytes then first_fault bytes else Some NotToml

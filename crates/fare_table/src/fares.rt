@@ -3,9 +3,10 @@ ghost use Rattle.std.specs.Prelude.{◌≡◌, ◌≢◌, ◌≤◌, false, leng
 ghost use Rattle.std.specs.Prelude.{IsSome, IfSome, IfOk, IfErr};
 ghost use Rattle.std.specs.List.{All, Contains};
 ghost use Rattle.std.proofs.Props.{props};
-ghost use Rattle.fare_table.specs.Faults.{first_fault};
-ghost use Rattle.fare_table.specs.Limits.{is_maximum_low, AreWithinLimits};
+ghost use Rattle.fare_table.specs.Faults.{first_fault, fault_in};
+ghost use Rattle.fare_table.specs.Limits.{is_maximum_low};
 ghost use Rattle.fare_table.specs.Listed.{fares_of, band_of, HasSingles};
+ghost use Rattle.fare_table.specs.Lists.{IsWithinLimits};
 ghost use Rattle.fare_table.specs.declared.key.TheConstants.{HIGHEST_PRICE, HIGHEST_BALANCE};
 ghost use Rattle.fare_table.specs.declared.key.TheConstants.{MOST_MINUTES, MOST_CAPS};
 
@@ -20,6 +21,7 @@ use crate::{document, times, tree};
 use money_time::{Stamp, Window, Zone};
 use sha2::{Digest, Sha256};
 use std::alloc::{AllocError, Global};
+use std::str;
 
 /// A fare table that was read.
 pub struct Fares {
@@ -30,7 +32,7 @@ pub struct Fares {
     lists: Lists,
     digest: [u8; 32],
     ghost within_maximum: { is_maximum_low rates lists.singles.items lists.pairs ≡ false },
-    ghost within_limits: { AreWithinLimits rates lists.pairs lists.caps.items lists.interchanges } by { Prim.hlevel props },
+    ghost within_limits: { IsWithinLimits rates lists } by { Prim.hlevel props },
     ghost has_singles: { HasSingles lists.stations lists.singles.items },
 }
 
@@ -87,6 +89,22 @@ impl Fares {
             lists,
             digest,
         })
+    }
+
+    /// The table that bytes hold. Bytes that are no UTF-8 are no TOML document.
+    ///
+    /// `Memory` says nothing of the bytes. Any other fault is their first one (docs/TABLE.md,
+    /// "Faults").
+    pub fn read_bytes(alloc: Global, bytes: &[u8]) -> Result<Fares, TableFault>
+        ensures ok { IfOk result (IsTableOf bytes.now) }
+        ensures no_fault { IfOk result (λ _. fault_in bytes.now ≡ None) }
+        ensures fault { IfErr result (λ found. found ≢ TableFault.Memory
+            → fault_in bytes.now ≡ Some found) }
+    {
+        match str::from_utf8(bytes) {
+            Ok(text) => Fares::read(alloc, text),
+            Err(_) => Err(TableFault::NotToml),
+        }
     }
 
     /// The station of this number.

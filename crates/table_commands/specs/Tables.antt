@@ -1,7 +1,7 @@
 -- The tables that a command's words name, and why there are none (docs/FAULTS.md, "Faults"; this
 -- project's choice). A file is said to have given some bytes by `gave`, of its path and of them.
 use Rattle.std.specs.Prelude.{◌≡◌, ◌⊎◌, ◌+◌, ℕ, List, [], ◌∷◌, ◌++◌, length, Option, Some, None}
-use Rattle.fare_table.specs.Faults.{first_fault}
+use Rattle.fare_table.specs.Faults.{first_fault, fault_in}
 use Rattle.fare_table.specs.Table.{IsTableOf}
 use Rattle.fare_table.specs.declared.example.TheConstants.{EXAMPLE_TABLE}
 use Rattle.fare_table.specs.declared.fares.Fares.{Fares}
@@ -9,7 +9,6 @@ use Rattle.fare_schedule.specs.Schedule.{tables_of}
 use Rattle.fare_schedule.specs.declared.schedule.Schedule.{Schedule}
 use Rattle.text_io.specs.declared.fault.RunFault.TheVariants as runs
 use Rattle.reply_book.specs.Tables.{Tables, tables_in}
-use Rattle.table_report.specs.Check.{fault_in}
 use Rattle.table_commands.specs.Trial.{IsSupplyFault}
 use Rattle.table_commands.specs.declared.fault.TrialFault.{TrialFault}
 use Rattle.table_commands.specs.declared.fault.TrialFault.TheVariants.{Run, Table, File}

@@ -4,24 +4,9 @@ ghost use Rattle.std.specs.Prelude.{◌≡◌, Some, None};
 ghost use Rattle.fare_table.specs.Keys.{text_of, shape_of, list_of};
 ghost use Rattle.table_commands.specs.Place.{allowed_by, printed_allowed, list_text};
 
-use fare_table::{Key, TableFault};
+use fare_table::{Key, Shape, TableFault};
 use std::fmt;
 use table_report::{Found, Sheet, Wanted};
-
-/// The highest price, in pence.
-const PRICE: Allowed = Allowed::Whole(10_000);
-
-/// The highest zone.
-const ZONE: Allowed = Allowed::Whole(9);
-
-/// The highest number of a station.
-const NUMBER: Allowed = Allowed::Whole(65_535);
-
-/// The most minutes of a leg or an interchange.
-const MINUTES: Allowed = Allowed::Whole(600);
-
-/// A list of any number of rows, as most lists are.
-const ROWS: Allowed = Allowed::Rows(0, 1_000);
 
 /// What may stand where a fault of a table is. It prints as it is told.
 #[derive(Clone, Copy, PartialEq, Eq)]
@@ -105,15 +90,15 @@ pub fn place_of<'a>(sheet: &'a Sheet<'_>, fault: TableFault) -> Option<Place<'a>
             let entry = entry_of(key);
             Some(place_at(sheet, wanted_at(&entry, row), ordered(key, entry.allowed)))
         }
-        TableFault::Twice(key, row) => repeated(sheet, entry_of(key).text, row),
+        TableFault::Twice(list, row) => repeated(sheet, list, row),
         TableFault::UnknownStation(id) => {
             Some(place_at(sheet, sheet.naming(id)?, Allowed::Station))
         }
         TableFault::MissingSingle(low, high) => Some(no_single(low, high)),
         TableFault::MaximumTooLow => above(sheet),
-        TableFault::BadZone => Some(place_at(sheet, Wanted::Key("zone"), Allowed::Rule)),
+        TableFault::BadZone => Some(place_at(sheet, Wanted::Key(Key::Zone.text()), Allowed::Rule)),
         TableFault::BadDate(row) => {
-            Some(place_at(sheet, Wanted::Row("holidays", row), Allowed::Date))
+            Some(place_at(sheet, Wanted::Row(Key::Holidays.text(), row), Allowed::Date))
         }
     }
 }
@@ -158,25 +143,19 @@ fn wanted_at(entry: &Entry, row: usize) -> Wanted {
 fn typed(entry: &Entry, row: usize) -> Allowed {
     match (entry.list, row) {
         ("", 0) => entry.allowed,
-        ("", _) if entry.text == "holidays" => Allowed::Date,
+        ("", _) if entry.text == Key::Holidays.text() => Allowed::Date,
         ("", _) => Allowed::Table,
         _ => entry.allowed,
     }
 }
 
 /// The place of a row that names what an earlier one names: that of its first key.
-fn repeated<'a>(sheet: &'a Sheet<'_>, list: &'static str, row: usize) -> Option<Place<'a>> {
-    let key = match list {
-        "station" => "id",
-        "single" => "low",
-        "pair" => "from",
-        "cap" => "lo",
-        _ => "a",
-    };
+fn repeated<'a>(sheet: &'a Sheet<'_>, list: Key, row: usize) -> Option<Place<'a>> {
+    let key = list.keys().first()?;
     let earlier = sheet.row_before(list, row)?;
     Some(place_at(
         sheet,
-        Wanted::Cell(list, row, key),
+        Wanted::Cell(list.text(), row, key.text()),
         Allowed::Unlike(earlier),
     ))
 }
@@ -185,7 +164,7 @@ fn repeated<'a>(sheet: &'a Sheet<'_>, list: &'static str, row: usize) -> Option<
 fn no_single<'a>(low: u8, high: u8) -> Place<'a> {
     Place {
         line: None,
-        standing: Standing::Nothing("single"),
+        standing: Standing::Nothing(Key::Single.text()),
         allowed: Allowed::Single(low, high),
     }
 }
@@ -217,69 +196,41 @@ fn ordered(key: Key, allowed: Allowed) -> Allowed {
     }
 }
 
-/// A key of the table itself.
-fn top_key(text: &'static str, allowed: Allowed) -> Entry
-    ensures list { result.list.now ≡ list_text None }
-    ensures text { result.text.now ≡ text.now }
-    ensures allowed { result.allowed ≡ allowed }
-{
-    row_key("", text, allowed)
-}
-
-/// A key of the rows of a list.
-fn row_key(list: &'static str, text: &'static str, allowed: Allowed) -> Entry
-    ensures list { result.list.now ≡ list.now }
-    ensures text { result.text.now ≡ text.now }
-    ensures allowed { result.allowed ≡ allowed }
-{
-    Entry {
-        list,
-        text,
-        allowed,
-    }
-}
-
 /// What docs/TABLE.md says of a key.
 fn entry_of(key: Key) -> Entry
     ensures list { result.list.now ≡ list_text (list_of key) }
     ensures text { result.text.now ≡ text_of key }
     ensures allowed { result.allowed ≡ allowed_by (shape_of key) }
 {
-    match key {
-        Key::Zone => top_key("zone", Allowed::Text),
-        Key::EntryMinimum => top_key("entry_minimum", PRICE),
-        Key::BalanceLimit => top_key("balance_limit", Allowed::Whole(1_000_000)),
-        Key::LegMinutes => top_key("leg_minutes", MINUTES),
-        Key::EveningRule => top_key("evening_rule", Allowed::Truth),
-        Key::MaximumPeak => top_key("maximum_peak", PRICE),
-        Key::MaximumOffPeak => top_key("maximum_off_peak", PRICE),
-        Key::Holidays => top_key("holidays", ROWS),
-        Key::Station => top_key("station", Allowed::Rows(1, 1_000)),
-        Key::StationId => row_key("station", "id", NUMBER),
-        Key::StationName => row_key("station", "name", Allowed::Name),
-        Key::StationZones => row_key("station", "zones", Allowed::Zones),
-        Key::Single => top_key("single", ROWS),
-        Key::SingleLow => row_key("single", "low", ZONE),
-        Key::SingleHigh => row_key("single", "high", ZONE),
-        Key::SinglePeak => row_key("single", "peak", PRICE),
-        Key::SingleOffPeak => row_key("single", "off_peak", PRICE),
-        Key::Pair => top_key("pair", Allowed::Rows(0, 10_000)),
-        Key::PairFrom => row_key("pair", "from", NUMBER),
-        Key::PairTo => row_key("pair", "to", NUMBER),
-        Key::PairLo => row_key("pair", "lo", ZONE),
-        Key::PairHi => row_key("pair", "hi", ZONE),
-        Key::PairPeak => row_key("pair", "peak", PRICE),
-        Key::PairOffPeak => row_key("pair", "off_peak", PRICE),
-        Key::PairMinutes => row_key("pair", "minutes", MINUTES),
-        Key::Cap => top_key("cap", Allowed::Rows(0, 32)),
-        Key::CapLo => row_key("cap", "lo", ZONE),
-        Key::CapHi => row_key("cap", "hi", ZONE),
-        Key::CapKind => row_key("cap", "kind", Allowed::Kind),
-        Key::CapPrice => row_key("cap", "price", PRICE),
-        Key::Interchange => top_key("interchange", ROWS),
-        Key::InterchangeA => row_key("interchange", "a", NUMBER),
-        Key::InterchangeB => row_key("interchange", "b", NUMBER),
-        Key::InterchangeMinutes => row_key("interchange", "minutes", MINUTES),
+    Entry {
+        list: list_word(key),
+        text: key.text(),
+        allowed: allowed_at(key.shape()),
+    }
+}
+
+/// The text of the list whose rows have a key, and none for a key of the table itself.
+fn list_word(key: Key) -> &'static str
+    ensures { result.now ≡ list_text (list_of key) }
+{
+    match key.list() {
+        Some(list) => list.text(),
+        None => "",
+    }
+}
+
+/// What a key of this shape may hold.
+fn allowed_at(shape: Shape) -> Allowed
+    ensures { result ≡ allowed_by shape }
+{
+    match shape {
+        Shape::Whole(highest) => Allowed::Whole(highest),
+        Shape::Truth => Allowed::Truth,
+        Shape::Text => Allowed::Text,
+        Shape::Name => Allowed::Name,
+        Shape::Kind => Allowed::Kind,
+        Shape::Zones => Allowed::Zones,
+        Shape::Rows(least, most) => Allowed::Rows(least, most),
     }
 }
 

@@ -19,7 +19,7 @@ use crate::place::place_of;
 use fare_schedule::{Schedule, SupplyFault};
 use fare_table::{EXAMPLE_TABLE, Fares, TableFault};
 use std::alloc::Global;
-use table_report::{Sheet, SurveyFault, read_table};
+use table_report::{Sheet, SurveyFault};
 use text_io::RunFault;
 
 /// The first fare table: that in a file, or the example table where no file is named.
@@ -145,7 +145,7 @@ pub(crate) fn table_of(alloc: Global, path: &str, bytes: &[u8]) -> Result<Fares,
     ensures ok { IfOk result (IsTableOf bytes.now) }
     ensures fault { IfErr result (IsTableFault bytes.now) }
 {
-    match read_table(alloc, bytes) {
+    match Fares::read_bytes(alloc, bytes) {
         Ok(fares) => Ok(fares),
         Err(TableFault::Memory) => Err(TrialFault::Run(RunFault::Memory)),
         Err(fault) => {

@@ -1,36 +1,15 @@
 -- What is reported on the bytes of a table.
 use Rattle.std.proofs.Common.{◌≡◌, ℕ, Bool, true, false, List, Option, Some, None, if◌then◌else◌, refl, sym, ap, ◌∙◌}
-use Rattle.std.specs.Str.{is_utf8, IsUtf8}
-use Rattle.std.proofs.lemmas.Str.{is_utf8-from_IsUtf8, IsUtf8-from_is_utf8}
+use Rattle.std.specs.Str.{is_utf8}
 use Rattle.toml.specs.Data.{Members}
 use Rattle.toml.specs.Parse.{parse_document}
 use Rattle.fare_table.specs.First.{first}
 use Rattle.fare_table.specs.Table.{IsTableOf}
-use Rattle.fare_table.specs.Faults.{faults, first_fault, first_fault_of}
+use Rattle.fare_table.specs.Faults.{faults, first_fault, first_fault_of, fault_in}
 use Rattle.fare_table.specs.declared.fares.Fares.{Fares}
 use Rattle.fare_table.specs.declared.fault.TableFault.{TableFault}
 use Rattle.fare_table.specs.declared.fault.TableFault.TheVariants.{NotToml}
 use Rattle.table_report.specs.Check.{report_of, text_report, tree_report, refused_table, table_lines, lines_of_table}
-use Rattle.table_report.specs.Check.{fault_in}
-
--- ---- texts
-
--- bytes that are no text are found to be none
-not_true : (b : Bool) → (b ≡ true → ⊥) → b ≡ false
-not_true true other = absurd (other refl)
-not_true false other = refl
-
--- the fault in a text is the text's own
-pub fault_in-text : (bytes : List ℕ) → IsUtf8 bytes → fault_in bytes ≡ first_fault bytes
-fault_in-text bytes is = rw (is_utf8-from_IsUtf8 bytes is) refl
-
--- bytes that are no text are no TOML
-pub fault_in-other : (bytes : List ℕ) → (IsUtf8 bytes → ⊥) → fault_in bytes ≡ Some NotToml
-fault_in-other bytes other =
-    let none : is_utf8 bytes ≡ false = not_true (is_utf8 bytes) (λ is. other (IsUtf8-from_is_utf8 bytes is)) in
-    rw none refl
-
--- ---- reports
 
 -- a table that was read has the lines of its text's tree
 lines-same : (bytes : List ℕ) (fares : Fares) (table : IsTableOf bytes fares)

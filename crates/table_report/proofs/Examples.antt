@@ -1,4 +1,5 @@
--- Worked examples, computed by the definitions: the lines of docs/COMMANDS.md, "check".
+-- Worked examples, computed by the definitions: the lines of docs/COMMANDS.md, "check", and the word that a definition
+-- takes from the code.
 use Rattle.std.proofs.Common.{◌≡◌, refl, [], ◌∷◌, false, pos, codes}
 use Rattle.std.specs.Fmt.{digits}
 use Rattle.hex.proofs.OnLiterals.{hex_on_literals}
@@ -7,6 +8,7 @@ use Rattle.fare_table.specs.declared.fault.TableFault.TheVariants.{Range}
 use Rattle.money_time.specs.declared.stamp.Window.TheVariants.{Early}
 use Rattle.table_report.specs.Check.{count_lines, refused_table}
 use Rattle.table_report.specs.Fare.{printed_quote}
+use Rattle.table_report.specs.declared.changes.TheConstants.{NOTHING}
 
 -- the lines of a valid table, by the first two bytes of its digest
 valid_table : count_lines 5 6 3 (0x17 ∷ 0x08 ∷ []) ≡ codes "stations 5\nsingles 6\ncaps 3\ndigest 1708\n"
@@ -28,3 +30,7 @@ a_journey : printed_quote (record {
 }) ≡ codes "charge 400\nfare 400\nby zones\nzones 1 3\nband peak\nwindow early\nclock 8:30\n"
 unfolding digits
 a_journey = refl
+
+-- what a comparison tells where one of the tables says nothing
+nothing_said : NOTHING.now ≡ codes "none"
+nothing_said = refl

@@ -10,7 +10,7 @@ use Rattle.toml.specs.Parse.{parse_document}
 use Rattle.fare_table.specs.First.{first}
 use Rattle.fare_table.specs.Tree.{rows_at}
 use Rattle.fare_table.specs.Content.{stations_of, singles_of, caps_of}
-use Rattle.fare_table.specs.Faults.{faults, first_fault}
+use Rattle.fare_table.specs.Faults.{faults}
 use Rattle.fare_table.specs.Fares.{content_of, digest_of}
 use Rattle.fare_table.specs.Texts.{printed_fault}
 use Rattle.fare_table.specs.declared.key.Key.TheVariants as key
@@ -74,10 +74,6 @@ text_report text (Some tree) = tree_report text tree (first (faults tree))
 abbrev pub report_of : List ℕ → TableReport
 report_of bytes =
     if is_utf8 bytes then text_report bytes (parse_document bytes) else refused_table NotToml
-
--- the first fault of the table that some bytes hold
-abbrev pub fault_in : List ℕ → Option TableFault
-fault_in bytes = if is_utf8 bytes then first_fault bytes else Some NotToml
 
 -- there is no fault
 abbrev pub has_none : Option TableFault → Bool

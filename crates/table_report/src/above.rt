@@ -2,14 +2,28 @@
 
 use crate::places::Wanted;
 use crate::tree::{rows_at, whole_at, whole_in};
+use fare_table::Key;
 use std::fmt;
 use toml::Table;
 
-/// The lists whose rows have prices, in the order in which they are looked at.
-const PRICED: [&str; 2] = ["single", "pair"];
-
-/// The key of each band's price, and that of its maximum.
-const BANDS: [(&str, &str); 2] = [("peak", "maximum_peak"), ("off_peak", "maximum_off_peak")];
+/// The lists whose rows have prices, in the order in which they are looked at, and the key of each
+/// price with that of its maximum.
+const PRICED: [(Key, [(Key, Key); 2]); 2] = [
+    (
+        Key::Single,
+        [
+            (Key::SinglePeak, Key::MaximumPeak),
+            (Key::SingleOffPeak, Key::MaximumOffPeak),
+        ],
+    ),
+    (
+        Key::Pair,
+        [
+            (Key::PairPeak, Key::MaximumPeak),
+            (Key::PairOffPeak, Key::MaximumOffPeak),
+        ],
+    ),
+];
 
 /// A price, or the off-peak maximum, that is above its maximum. It prints as what is allowed.
 #[derive(Clone, Copy, Debug, PartialEq, Eq)]
@@ -32,16 +46,16 @@ impl fmt::Display for Above {
 /// The first price above its maximum: the off-peak maximum, then the single fares row by row, then
 /// the pairs.
 pub fn first_above(tree: &Table) -> Option<Above> {
-    let most = whole_at(tree, "maximum_peak")?;
-    if whole_at(tree, "maximum_off_peak")? > most {
+    let most = whole_at(tree, Key::MaximumPeak)?;
+    if whole_at(tree, Key::MaximumOffPeak)? > most {
         return Some(Above {
-            price: Wanted::Key("maximum_off_peak"),
-            maximum: "maximum_peak",
+            price: Wanted::Key(Key::MaximumOffPeak.text()),
+            maximum: Key::MaximumPeak.text(),
             most,
         });
     }
-    for list in PRICED {
-        if let Some(above) = first_in(tree, list) {
+    for (list, prices) in PRICED {
+        if let Some(above) = first_in(tree, list.text(), prices) {
             return Some(above);
         }
     }
@@ -49,15 +63,15 @@ pub fn first_above(tree: &Table) -> Option<Above> {
 }
 
 /// The first price above its maximum in a list.
-fn first_in(tree: &Table, list: &'static str) -> Option<Above> {
+fn first_in(tree: &Table, list: &'static str, prices: [(Key, Key); 2]) -> Option<Above> {
     for (place, row) in rows_at(tree, list).iter().enumerate() {
-        for (key, maximum) in BANDS {
+        for (key, maximum) in prices {
             if let (Some(price), Some(most)) = (whole_in(row, key), whole_at(tree, maximum)) {
                 if price > most {
-                    let price = Wanted::Cell(list, place.saturating_add(1), key);
+                    let price = Wanted::Cell(list, place.saturating_add(1), key.text());
                     return Some(Above {
                         price,
-                        maximum,
+                        maximum: maximum.text(),
                         most,
                     });
                 }

@@ -1,18 +1,15 @@
 //! The check of a fare table: what is written says whether the table is valid, or what is wrong
 //! with it.
 
-ghost use Rattle.std.specs.Prelude.{◌≡◌, ◌≢◌, string_bytes, IfOk, IfErr, None, Some};
+ghost use Rattle.std.specs.Prelude.{◌≡◌, string_bytes, IfOk};
 ghost use Rattle.std.specs.Io.KnownBytes.{IsAtEnd};
 ghost use Rattle.text_io.specs.Writing.{Ran, Wrote};
-ghost use Rattle.fare_table.specs.Table.{IsTableOf};
-ghost use Rattle.fare_table.specs.declared.fault.TableFault.TheVariants as fault;
-ghost use Rattle.table_report.specs.Check.{report_of, fault_in, lines_of_table, report_in};
-ghost use Rattle.table_report.specs.Check.{HasChecked};
+ghost use Rattle.fare_table.specs.Faults.{fault_in};
+ghost use Rattle.table_report.specs.Check.{report_of, lines_of_table, report_in, HasChecked};
 
 use fare_table::{Fares, TableFault};
 use std::alloc::{AllocError, Global};
 use std::io::{Read, Write};
-use std::str;
 use text_io::{RunFault, read_all, write_text};
 
 /// What is told of a fare table.
@@ -64,7 +61,7 @@ pub fn report_table(alloc: Global, bytes: &[u8]) -> Result<TableReport, AllocErr
     ensures report { IfOk result (λ report. report_in report ≡ report_of bytes.now) }
     ensures fault { IfOk result (λ report. report.fault ≡ fault_in bytes.now) }
 {
-    match read_table(alloc, bytes) {
+    match Fares::read_bytes(alloc, bytes) {
         Ok(fares) => Ok(TableReport {
             text: table_lines(alloc, &fares)?,
             fault: None,
@@ -93,21 +90,6 @@ impl TableReport {
     {
         write_text(writer, self.text.as_bytes())?;
         Ok(self.fault.is_none())
-    }
-}
-
-/// The table that bytes hold. Bytes that are no UTF-8 are no TOML document.
-///
-/// `Memory` says nothing of the bytes. Any other fault is their first one (docs/TABLE.md,
-/// "Faults").
-pub fn read_table(alloc: Global, bytes: &[u8]) -> Result<Fares, TableFault>
-    ensures ok { IfOk result (IsTableOf bytes.now) }
-    ensures no_fault { IfOk result (λ _. fault_in bytes.now ≡ None) }
-    ensures fault { IfErr result (λ found. found ≢ fault.Memory → fault_in bytes.now ≡ Some found) }
-{
-    match str::from_utf8(bytes) {
-        Ok(text) => Fares::read(alloc, text),
-        Err(_) => Err(TableFault::NotToml),
     }
 }
 

@@ -1,10 +1,9 @@
 //! What is told of a fare table: its report or its first fault, what a journey costs by it, and
 //! what there is to note of its text.
 //!
-//! `check_table` carries the report, over any reader and writer; `read_table` gives the table that
-//! some bytes hold, and `cost_of` what a journey costs by a table. `look_over` has the notes, and
-//! `changes_of` what one table says otherwise than another. A text that is looked over needn't be a
-//! valid table.
+//! `check_table` carries the report, over any reader and writer; `cost_of` says what a journey
+//! costs by a table. `look_over` has the notes, and `changes_of` what one table says otherwise than
+//! another. A text that is looked over needn't be a valid table.
 #![tactic(auto)]
 
 mod above;
@@ -13,7 +12,6 @@ mod check;
 mod document;
 mod fare;
 mod found;
-mod keys;
 mod misread;
 mod pieces;
 mod places;
@@ -27,7 +25,7 @@ mod unknown;
 
 pub use above::Above;
 pub use changes::changes_of;
-pub use check::{TableReport, check_bytes, check_table, read_table, report_table};
+pub use check::{TableReport, check_bytes, check_table, report_table};
 pub use document::SurveyFault;
 pub use fare::{Quote, UnknownStation, cost_of};
 pub use found::Found;

@@ -2,27 +2,37 @@
 
 use crate::found::Found;
 use crate::tree::{member_in, rows_at, text_in, value_at, whole_in};
+use fare_table::Key;
 use std::alloc::{AllocError, Global};
 use toml::{Table, Value};
 
-/// The keys of the table itself.
-const WHOLE: [&str; 7] = [
-    "zone",
-    "entry_minimum",
-    "balance_limit",
-    "leg_minutes",
-    "evening_rule",
-    "maximum_peak",
-    "maximum_off_peak",
+/// The keys of the table itself that hold no list.
+const WHOLE: [Key; 7] = [
+    Key::Zone,
+    Key::EntryMinimum,
+    Key::BalanceLimit,
+    Key::LegMinutes,
+    Key::EveningRule,
+    Key::MaximumPeak,
+    Key::MaximumOffPeak,
 ];
 
 /// The lists of rows, and the keys that don't name a row: what it says.
-const LISTS: [(&str, &[&str]); 5] = [
-    ("station", &["name", "zones"]),
-    ("single", &["peak", "off_peak"]),
-    ("pair", &["lo", "hi", "peak", "off_peak", "minutes"]),
-    ("cap", &["price"]),
-    ("interchange", &["minutes"]),
+const LISTS: [(Key, &[Key]); 5] = [
+    (Key::Station, &[Key::StationName, Key::StationZones]),
+    (Key::Single, &[Key::SinglePeak, Key::SingleOffPeak]),
+    (
+        Key::Pair,
+        &[
+            Key::PairLo,
+            Key::PairHi,
+            Key::PairPeak,
+            Key::PairOffPeak,
+            Key::PairMinutes,
+        ],
+    ),
+    (Key::Cap, &[Key::CapPrice]),
+    (Key::Interchange, &[Key::InterchangeMinutes]),
 ];
 
 /// What a table says at one place.
@@ -38,17 +48,17 @@ pub struct Said {
 /// holidays. Keys that nobody knows aren't read.
 pub fn reading_of(alloc: Global, tree: &Table) -> Result<Vec<Said>, AllocError> {
     let mut said = Vec::new(alloc);
-    for key in &WHOLE {
-        if let Some(value) = value_at(tree, key) {
-            said.push(said_of(alloc, key, value)?)?;
+    for key in WHOLE {
+        if let Some(value) = value_at(tree, key.text()) {
+            said.push(said_of(alloc, key.text(), value)?)?;
         }
     }
-    for (list, keys) in &LISTS {
-        for row in rows_at(tree, list) {
+    for (list, keys) in LISTS {
+        for row in rows_at(tree, list.text()) {
             said.push(row_said(alloc, list, keys, row)?)?;
         }
     }
-    for day in rows_at(tree, "holidays") {
+    for day in rows_at(tree, Key::Holidays.text()) {
         said.push(day_said(alloc, day)?)?;
     }
     Ok(said)
@@ -63,7 +73,7 @@ fn said_of(alloc: Global, key: &str, value: &Value) -> Result<Said, AllocError> 
 }
 
 /// What a row says.
-fn row_said(alloc: Global, list: &str, keys: &[&str], row: &Value) -> Result<Said, AllocError> {
+fn row_said(alloc: Global, list: Key, keys: &[Key], row: &Value) -> Result<Said, AllocError> {
     Ok(Said {
         place: row_place(alloc, list, row)?,
         value: row_text(alloc, keys, row)?,
@@ -83,23 +93,32 @@ fn day_said(alloc: Global, day: &Value) -> Result<Said, AllocError> {
 }
 
 /// Which row of a list it is, in words: by the keys that no two rows of the list share.
-fn row_place(alloc: Global, list: &str, row: &Value) -> Result<String, AllocError> {
+fn row_place(alloc: Global, list: Key, row: &Value) -> Result<String, AllocError> {
     match list {
-        "station" => {
-            let id = number(row, "id");
+        Key::Station => {
+            let id = number(row, Key::StationId);
             format!(in alloc; "station {id}")
         }
-        "single" => {
-            let (low, high) = (number(row, "low"), number(row, "high"));
+        Key::Single => {
+            let (low, high) = (number(row, Key::SingleLow), number(row, Key::SingleHigh));
             format!(in alloc; "single of zones {low} to {high}")
         }
-        "cap" => {
-            let (lo, hi) = (number(row, "lo"), number(row, "hi"));
-            let kind = text_in(row, "kind");
+        Key::Cap => {
+            let (lo, hi) = (number(row, Key::CapLo), number(row, Key::CapHi));
+            let kind = text_in(row, Key::CapKind);
             format!(in alloc; "{kind} cap of zones {lo} to {hi}")
         }
-        "pair" => ends_place(alloc, list, number(row, "from"), number(row, "to")),
-        _ => ends_place(alloc, list, number(row, "a"), number(row, "b")),
+        Key::Pair => {
+            let (from, to) = (number(row, Key::PairFrom), number(row, Key::PairTo));
+            ends_place(alloc, list.text(), from, to)
+        }
+        _ => {
+            let (a, b) = (
+                number(row, Key::InterchangeA),
+                number(row, Key::InterchangeB),
+            );
+            ends_place(alloc, list.text(), a, b)
+        }
     }
 }
 
@@ -110,14 +129,15 @@ fn ends_place(alloc: Global, list: &str, one: i64, other: i64) -> Result<String,
 }
 
 /// The number at a key of a row, which every valid table has there.
-fn number(row: &Value, key: &str) -> i64 {
+fn number(row: &Value, key: Key) -> i64 {
     whole_in(row, key).unwrap_or(0)
 }
 
 /// What stands at these keys of a row, those that are there.
-fn row_text(alloc: Global, keys: &[&str], row: &Value) -> Result<String, AllocError> {
+fn row_text(alloc: Global, keys: &[Key], row: &Value) -> Result<String, AllocError> {
     let mut text = String::new(alloc);
     for key in keys {
+        let key = key.text();
         if let Some(value) = member_in(row, key) {
             if !text.is_empty() {
                 text.push_str(", ")?;

@@ -14,6 +14,7 @@ use crate::reading::{Said, reading_of};
 use crate::rows::{has_pair, naming, row_before};
 use crate::survey::{Survey, survey_of};
 use crate::tree::{member_in, row_at, value_at};
+use fare_table::Key;
 use std::alloc::{AllocError, Global};
 use toml::{Table, Value};
 
@@ -120,7 +121,7 @@ impl<'a> Sheet<'a> {
     }
 
     /// The first row of a list that names what a later one names.
-    pub fn row_before(&self, list: &'static str, row: usize) -> Option<usize> {
+    pub fn row_before(&self, list: Key, row: usize) -> Option<usize> {
         row_before(&self.tree, list, row)
     }
 }

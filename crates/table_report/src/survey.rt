@@ -10,6 +10,7 @@ use crate::places::first_heading;
 use crate::prices::{LowCap, are_pounds, low_caps};
 use crate::tree::count_at;
 use crate::unknown::{Unknown, unknown_keys};
+use fare_table::Key;
 use std::alloc::{AllocError, Global};
 use toml::Table;
 
@@ -58,9 +59,9 @@ pub fn survey_of(
 {
     Ok(Survey {
         unknown: unknown_keys(alloc, tree)?,
-        pairs: count_at(tree, "pair"),
-        interchanges: count_at(tree, "interchange"),
-        holidays: count_at(tree, "holidays"),
+        pairs: count_at(tree, Key::Pair.text()),
+        interchanges: count_at(tree, Key::Interchange.text()),
+        holidays: count_at(tree, Key::Holidays.text()),
         first_heading: heading_line(bytes, pieces),
         low_caps: low_caps(alloc, tree)?,
         are_pounds: are_pounds(tree),

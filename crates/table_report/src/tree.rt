@@ -6,6 +6,7 @@ ghost use Rattle.toml.specs.View.{view, table_view};
 ghost use Rattle.table_report.specs.Survey.{items_in, rows_at};
 ghost use Rattle.table_report.specs.Found.{member_in, row_at};
 
+use fare_table::Key;
 use toml::{Table, Value};
 
 /// The value at a key of a table.
@@ -44,15 +45,15 @@ pub fn count_at(table: &Table, key: &str) -> usize
 }
 
 /// The whole number at a key, where there is one.
-pub fn whole_at(table: &Table, key: &str) -> Option<i64> {
-    match value_at(table, key) {
+pub fn whole_at(table: &Table, key: Key) -> Option<i64> {
+    match value_at(table, key.text()) {
         Some(Value::Integer(number)) => Some(*number),
         _ => None,
     }
 }
 
 /// The whole number at a key of a row, where there is one.
-pub fn whole_in(row: &Value, key: &str) -> Option<i64> {
+pub fn whole_in(row: &Value, key: Key) -> Option<i64> {
     match row {
         Value::Table(row) => whole_at(row, key),
         _ => None,
@@ -60,8 +61,8 @@ pub fn whole_in(row: &Value, key: &str) -> Option<i64> {
 }
 
 /// The text at a key of a row, and the empty one where there is none.
-pub fn text_in<'a>(row: &'a Value, key: &str) -> &'a str {
-    match member_in(row, key) {
+pub fn text_in<'a>(row: &'a Value, key: Key) -> &'a str {
+    match member_in(row, key.text()) {
         Some(Value::String(text)) => text.as_str(),
         _ => "",
     }

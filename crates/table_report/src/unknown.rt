@@ -1,7 +1,7 @@
 //! Keys that aren't known, and those that were meant by them.
 
-use crate::keys::{LISTS, TOP_KEYS, row_keys};
 use crate::tree::rows_at;
+use fare_table::{Key, LISTS, TOP_KEYS};
 use std::alloc::{AllocError, Global};
 use std::fmt;
 use strsim::osa_distance;
@@ -14,13 +14,13 @@ const LONG: usize = 7;
 #[derive(Debug, PartialEq, Eq, Drop)]
 pub struct Unknown {
     /// The list in whose row it stands. A key of the table itself has none.
-    pub list: Option<&'static str>,
+    pub list: Option<Key>,
     /// The row, from 1, and 0 of the table itself.
     pub row: usize,
     /// The key.
     pub key: String,
     /// The known key that it is near to.
-    pub meant: Option<&'static str>,
+    pub meant: Option<Key>,
 }
 
 impl Unknown {
@@ -35,11 +35,17 @@ impl fmt::Display for Unknown {
     fn fmt<W: fmt::Write>(&self, f: &mut fmt::Formatter<W>) -> fmt::Result {
         let (key, row) = (self.key.escape_debug(), self.row);
         match self.list {
-            Some(list) => write!(f, "note: {list}.{key} in row {row} isn't known")?,
+            Some(list) => {
+                let list = list.text();
+                write!(f, "note: {list}.{key} in row {row} isn't known")?;
+            }
             None => write!(f, "note: {key} isn't known")?,
         }
         match self.meant {
-            Some(meant) => write!(f, "; is {meant} meant?"),
+            Some(meant) => {
+                let meant = meant.text();
+                write!(f, "; is {meant} meant?")
+            }
             None => Ok(()),
         }
     }
@@ -51,7 +57,10 @@ pub fn unknown_keys(alloc: Global, tree: &Table) -> Result<Vec<Unknown>, AllocEr
     let mut unknown = Vec::new(alloc);
     look_at(alloc, tree, None, 0, &mut unknown)?;
     for list in LISTS {
-        look_at_rows(alloc, list, rows_at(tree, list), &mut unknown)?;
+        // A holiday has no keys.
+        if !list.keys().is_empty() {
+            look_at_rows(alloc, list, rows_at(tree, list.text()), &mut unknown)?;
+        }
     }
     Ok(unknown)
 }
@@ -59,7 +68,7 @@ pub fn unknown_keys(alloc: Global, tree: &Table) -> Result<Vec<Unknown>, AllocEr
 /// Adds the unknown keys of a list's rows.
 fn look_at_rows(
     alloc: Global,
-    list: &'static str,
+    list: Key,
     rows: &[Value],
     unknown: &mut Vec<Unknown>,
 ) -> Result<(), AllocError> {
@@ -75,12 +84,12 @@ fn look_at_rows(
 fn look_at(
     alloc: Global,
     table: &Table,
-    list: Option<&'static str>,
+    list: Option<Key>,
     row: usize,
     unknown: &mut Vec<Unknown>,
 ) -> Result<(), AllocError> {
-    let known: &[&'static str] = match list {
-        Some(list) => row_keys(list),
+    let known: &[Key] = match list {
+        Some(list) => list.keys(),
         None => &TOP_KEYS,
     };
     for key in table.keys() {
@@ -98,22 +107,19 @@ fn look_at(
 }
 
 /// Whether the key is one of these.
-fn is_among(key: &str, known: &[&str]) -> bool {
-    known.iter().any(|name| *name == key)
+fn is_among(key: &str, known: &[Key]) -> bool {
+    known.iter().any(|known| known.text() == key)
 }
 
 /// Of these keys the first that is nearest to a text, where one is near.
-fn nearest(
-    alloc: Global,
-    text: &str,
-    known: &[&'static str],
-) -> Result<Option<&'static str>, AllocError> {
+fn nearest(alloc: Global, text: &str, known: &[Key]) -> Result<Option<Key>, AllocError> {
     let mut best = None;
     let mut least = usize::MAX;
-    for name in known {
+    for key in known {
+        let name = key.text();
         let distance = osa_distance(alloc, text, name)?;
         if distance < least && is_near(text, name, distance) {
-            best = Some(*name);
+            best = Some(*key);
             least = distance;
         }
     }

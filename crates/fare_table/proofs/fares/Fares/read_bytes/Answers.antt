@@ -1,10 +1,9 @@
 use Rattle.std.proofs.Common.{◌≡◌, ◌≢◌, None, Some, IfOk, IfErr, subst, sym, ap, ◌∙◌}
-use Rattle.fare_table.specs.Faults.{first_fault}
+use Rattle.fare_table.specs.Faults.{first_fault, fault_in}
 use Rattle.fare_table.specs.declared.fault.TableFault.TheVariants.{Memory}
-use Rattle.table_report.specs.Check.{fault_in}
-use Rattle.table_report.proofs.CheckLemmas.{fault_in-text, fault_in-other}
-use Rattle.table_report.proofs.check.read_table.Goals as goal
-use Rattle.table_report.proofs.check.read_table.Goals.{After-read}
+use Rattle.fare_table.proofs.BytesLemmas.{fault_in-text, fault_in-other}
+use Rattle.fare_table.proofs.fares.Fares.read_bytes.Goals as goal
+use Rattle.fare_table.proofs.fares.Fares.read_bytes.Goals.{After-read}
 
 -- the text that was read has the faults of the bytes
 same : (c : After-read) → first_fault c.in-Ok.text.now ≡ fault_in c.args.bytes.now
