@@ -11,18 +11,16 @@ bytes-preserved c =
     let value = c.value_of-value.result in
     record {
       digits = λ small.
-          let below : value < 256 = omega (arith, small, c.higher-highest.ensures.one, c.higher-highest.ensures.other)
-          in
-          let before : c.bytes.highest < 256 = omega
-          (arith, small, c.higher-highest.ensures.one, c.higher-highest.ensures.other) in
+          let below : value < 256 = omega (arith, small, c.bits_of_both-seen.ensures.other) in
+          let before : c.bytes.seen < 256 = omega (arith, small, c.bits_of_both-seen.ensures.one) in
           let byte : value ≡ value % 256 = omega (arith, below) in
           decode_step _ _ c.bytes.place _ (omega arith) (omega arith)
           (c.value_of-value.ensures.some below (2 * c.bytes.place)
           ∙ ap (λ (n : ℕ). Ok n) byte) (c.bytes.invariant.digits before);
-      none = λ big. elim (cases_lt c.bytes.highest 256) [
+      none = λ big. elim (cases_lt c.bytes.seen 256) [
         | inl before ↦
             let above : 256 ≤ value = elim (cases_lt value 256) [
-              | inl below ↦ absurd (omega (arith, big, c.higher-highest.ensures.digits before below))
+              | inl below ↦ absurd (omega (arith, big, c.bits_of_both-seen.ensures.digits before below))
               | inr high ↦ high
             ] in
             decode_of-refused c.args.line.now c.bytes.frame c.bytes.place (omega arith) (omega arith)
@@ -33,11 +31,11 @@ bytes-preserved c =
 
 pub returns-clause-digits : goal.returns-clause-digits
 returns-clause-digits c = λ is.
-    let small : c.bytes.highest < 256 = grind (arith, nat_tests, is) in
+    let small : c.bytes.seen < 256 = grind (arith, nat_tests, is) in
     decode_of-even c.args.line.now (omega arith)
     ∙ decode_done _ c.bytes.frame c.bytes.place (omega arith) (omega arith) (c.bytes.invariant.digits small)
 
 pub returns-clause-none : goal.returns-clause-none
 returns-clause-none c = λ is.
-    let big : 256 ≤ c.bytes.highest = grind (arith, nat_tests, is) in
+    let big : 256 ≤ c.bytes.seen = grind (arith, nat_tests, is) in
     c.bytes.invariant.none big

@@ -2,7 +2,7 @@ use Rattle.std.proofs.Common.{◌≡◌, ℕ, take, refl, subst, ap, ◌∙◌, 
 use Rattle.line_replay.specs.declared.fault.ReplayFault.TheVariants.{Run}
 use Rattle.text_io.specs.declared.fault.RunFault.TheVariants.{Memory, Read}
 use Rattle.line_replay.specs.Progress.{output_from}
-use Rattle.line_replay.proofs.ReplayLemmas.{on_ok-any}
+use Rattle.line_replay.proofs.OutputLemmas.{on_ok-any}
 use Rattle.line_replay.proofs.RunLemmas.{Ran-nothing, Ran-begins, Ran-unread, Ran-over, Ran-more, Ran-end, Ran-stopped}
 use Rattle.line_replay.proofs.RunLemmas.{passed-is, front-same}
 use Rattle.std.proofs.lemmas.List.{length-take}
