@@ -5,7 +5,9 @@ ghost use Rattle.fare_schedule.specs.Schedule.{revisions_of};
 ghost use Rattle.reply_book.specs.Book.{entries_of, Stands};
 
 use super::revised::{REVISED_DIGEST, REVISED_TABLE};
+use super::rows::touch;
 use super::*;
+use oyster_account::Act;
 
 /// A revision to the table of this digest.
 const fn revise_to(number: u32, digest: [u8; 32], day: i32) -> Touch {
