@@ -12,7 +12,7 @@ ghost use Rattle.gate_client.specs.Heard.{frame_of, IsSent, IsUnder};
 use crate::{HearFault, LineFault};
 use byteorder::{BigEndian, ByteOrder};
 use gate_session::{ANSWER_SIZE, Answer, REQUEST_SIZE};
-use oyster_account::{Act, Reply, TOUCH_SIZE, Touch, read_i32, read_u16, read_u32};
+use oyster_account::{Reply, TOUCH_SIZE, Touch, read_i32, read_u16, read_u32};
 use std::io::{Read, Write};
 use text_io::write_whole;
 
@@ -27,7 +27,6 @@ pub(crate) fn write_touch<W: Write>(writer: &mut W, touch: &Touch) -> Result<(),
         (λ text. IsSent touch.now text result) }
     ensures fits { Fits touch.now }
 {
-    touch_fits(touch);
     let mut frame = [0; REQUEST_SIZE];
     let size = write_frame(touch, &mut frame);
     match write_whole(writer, &frame[..size]) {
@@ -40,44 +39,15 @@ pub(crate) fn write_touch<W: Write>(writer: &mut W, touch: &Touch) -> Result<(),
 fn write_frame(touch: &Touch, frame: &mut [u8; REQUEST_SIZE]) -> usize
     ensures within { result ≤ REQUEST_SIZE }
     ensures written { take result frame.new ≡ frame_of touch.now }
+
+    // The law that a frame is of one request needs it.
+    ensures fits { Fits touch.now }
 {
     let mut body = [0; TOUCH_SIZE];
     let size = touch.write_into(&mut body);
     BigEndian::write_u16(&mut frame[..LENGTH_SIZE], size as u16);
     frame[LENGTH_SIZE..].copy_from_slice(&body);
     LENGTH_SIZE + size
-}
-
-/// Each number of a touch is of its type, which the law that a frame is of one request needs.
-fn touch_fits(touch: &Touch)
-    ensures { Fits touch.now }
-{
-    let Touch {
-        gate: _gate,
-        number: _number,
-        card: _card,
-        act,
-    } = *touch;
-    match act {
-        Act::Enter {
-            station: _station,
-            moment: _moment,
-        }
-        | Act::Leave {
-            station: _station,
-            moment: _moment,
-        } => {}
-        Act::TopUp {
-            pence: _pence,
-            moment: _moment,
-        } => {}
-        Act::Issue { moment: _moment } => {}
-        Act::Revise {
-            digest: _digest,
-            day: _day,
-            moment: _moment,
-        } => {}
-    }
 }
 
 /// Reads the answer to a touch: a reply or a fault.

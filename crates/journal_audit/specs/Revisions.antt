@@ -9,7 +9,7 @@ use Rattle.oyster_account.specs.declared.reply.Judged.{Judged}
 use Rattle.reply_book.specs.Legal.{book}
 use Rattle.reply_book.specs.Tables.{Tables}
 use Rattle.journal_audit.specs.Calendar.{day_text}
-use Rattle.journal_audit.specs.HistoryRow.{verdict_name}
+use Rattle.journal_audit.specs.HistoryRow.{verdict_field}
 
 -- the history that the touches make, where tables are named
 abbrev pub history_by : Option Tables → ℕ → List Touch → Option (List Judged)
@@ -24,7 +24,7 @@ judged_at (Some history) place = slice_get history place
 -- the name of its verdict behind a space, where the judgement is known
 abbrev pub verdict_text : Option Judged → List ℕ
 verdict_text None = []
-verdict_text (Some judged) = 32 ∷ verdict_name judged.reply.verdict
+verdict_text (Some judged) = 32 ∷ verdict_field judged.reply.verdict
 
 -- the beginning of a revision's line: its place, and the fare day from which its table counts
 unfoldable pub revision_start : ℕ → ℤ → List ℕ
