@@ -35,12 +35,14 @@ use Rattle.tap_office.specs.Seat.{SeatState, fresh_seat}
 abbrev pub header_by : ℕ → ℕ → Tables → Header
 header_by capacity cards tables = header_of capacity cards (digest_of tables.first)
 
--- an opening: the fare tables, the journal's header, the history that was found, how many seats are
--- to be made, the two ledgers, the logbook of the history, and the disk
+-- an opening: the fare tables, the journal's header, the history that was found, how many open
+-- slots stood behind the journal's end, how many seats are to be made, the two ledgers, the logbook
+-- of the history, and the disk
 pub record OpeningState (D : Type 0) : Type 0 where
   pub tables : Tables
   pub header : Header
   pub recovered : List Entry
+  pub behind : ℕ
   pub seats : ℕ
   pub receipts : ℕ
   pub numbers : ℕ
