@@ -19,7 +19,7 @@ mod standby;
 
 pub use audit::verify_journal;
 pub use balances::tell_balances;
-pub use behind::{look_at_end, look_behind, slots_behind, tell_behind};
+pub use behind::{look_behind, tell_behind};
 pub use disks::{JournalFiles, SystemDisks};
 pub use explanation::{OpenedBy, explained};
 pub use fault::{CommandFault, tell_command_fault};

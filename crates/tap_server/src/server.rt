@@ -4,7 +4,8 @@ ghost use Rattle.tap_office.specs.Name.{IsNameOf};
 ghost use Rattle.fare_schedule.specs.Schedule.{revisions_of};
 ghost use Rattle.tap_office.specs.Opening.{opened_of};
 ghost use Rattle.command_line.specs.Arguments.{IsServeAllowed};
-ghost use Rattle.std.specs.Prelude.{◌≡◌, []};
+ghost use Rattle.journal_commands.specs.Behind.{HasFewBehind};
+ghost use Rattle.std.specs.Prelude.{◌≡◌, [], true, IfOk};
 ghost use Rattle.tap_server.specs.Serve.{serve_fault};
 
 use crate::failure::Failure;
@@ -18,7 +19,7 @@ use fare_schedule::Schedule;
 use gate_service::{
     GateLine, Lines, Notices, Post, ServeFault, Service, TcpLines, Watch, Watched, serve_office,
 };
-use journal_commands::{CommandFault, OpenedBy, explained, listen_fault, look_at_end};
+use journal_commands::{CommandFault, OpenedBy, explained, listen_fault, look_behind, tell_behind};
 use money_time::Zone;
 use std::alloc::Global;
 use std::fs::File;
@@ -95,10 +96,33 @@ fn serve_journal<
     requires unrevised { revisions_of schedule ≡ [] }
     requires allowed { IsServeAllowed asked.now }
 {
+    match read_opening(rt, disk, failure, schedule, asked) {
+        Ok(opening) => {
+            serve_opening::<Brand, NotedDisk<'a, FileDisk>, R>(rt, opening, failure, zone, asked)
+        }
+        Err(fault) => Err(fault),
+    }
+}
+
+/// Reads the journal on a disk, by a schedule without a revision, where a server may go on with it:
+/// one that is strict goes on where at most one open slot stands behind the journal's end.
+fn read_opening<D: Disk + Drop, R: AllocGlobal + Files>(
+    rt: &R,
+    disk: D,
+    failure: &Failure,
+    schedule: Schedule,
+    asked: &Serve<'_>,
+) -> Result<Opening<D>, CommandFault>
+    requires unrevised { revisions_of schedule ≡ [] }
+    requires allowed { IsServeAllowed asked.now }
+    ensures { asked.now.strict ≡ true → IfOk result (λ opening. D.honest opening.disk
+        → HasFewBehind (D.content disk)) }
+{
     let seats = asked.lines as u16;
     match Opening::read(rt.alloc(), disk, schedule, asked.cards, seats) {
         Ok(opening) => {
-            serve_opening::<Brand, NotedDisk<'a, FileDisk>, R>(rt, opening, failure, zone, asked)
+            look_behind(rt.alloc(), asked.journal, opening.behind(), asked.strict)?;
+            Ok(opening)
         }
         Err(fault) => Err(unopened_fault(rt, failure, asked, fault.cause.into())),
     }
@@ -133,6 +157,7 @@ fn serve_opening<
 {
     let alloc = rt.alloc();
     let capacity = opening.capacity();
+    let behind = opening.behind();
     let (office, seats, desks) = match opening.office::<N, R>(rt, alloc) {
         Ok(made) => made,
         Err(fault) => return Err(fault.cause.into()),
@@ -142,7 +167,7 @@ fn serve_opening<
         seats,
         desks,
     };
-    look_at_end(rt, &SystemFiles::new(rt), asked.journal, asked.strict)?;
+    tell_behind(rt, behind);
     let watching = Watching {
         watched: watched_by(asked, capacity, open.office.opened(), zone),
         failure,
