@@ -58,6 +58,16 @@ def functions(text, indent):
         yield match["name"], bool(match["pub"]), [clause["label"] or "ensures" for clause in CLAUSE.finditer(head)]
 
 
+def bodies(text):
+    """The functions of a text that have a body, with how many lines stand between its braces."""
+    for indent in (0, 4):
+        ends = re.compile(rf"^ {{{indent}}}\}}", re.M)
+        for match, close in heads(text, indent):
+            end = ends.search(text, close)
+            if text.endswith("{", 0, close) and end:
+                yield match["name"], text.count("\n", close, end.start()) - 1
+
+
 @dataclasses.dataclass
 class Owner:
     """An impl or a trait: the type's name or the trait's own, the name of the trait that it is an impl of, its members and

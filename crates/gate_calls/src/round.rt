@@ -67,8 +67,8 @@ pub fn ask_and_settle<D: Disk, C: Clerk, H: Wait>(
         (next_touch (gate_of client.old) asked card act) reply client.new
         (station clerk.new).history) }
 
-    // Whatever is lost, what came of it are steps of the law: none where the touch isn't kept. After
-    // a failing disk the gate's file has to be opened again, as `opening_is_a_step` has it.
+    // Whatever is lost, what came of it are steps of the law: none where the touch isn't kept.
+    // After a failing disk the gate's file has to be opened again, as `opening_is_a_step` has it.
     ensures steps { (station : C → StationState) (gate cards : ℕ) (s : Joint)
         → KeepsStation C.gives station → IsShown gate cards s client.old (station clerk.old)
         → IsRound gate cards s (next_touch gate s.asked card act) result client.new

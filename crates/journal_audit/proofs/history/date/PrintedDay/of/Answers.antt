@@ -8,5 +8,6 @@ pub invariant_of-result : goal.invariant_of-result
 invariant_of-result c =
     let fits : FitsSigned w32 c.args.day = search rules in
     record {
-      told = c.date_text-date.ensures ∙ sym (day_text-date c.args.date) ∙ ap day_text (c.requires ∙ sym (to_z-of_z fits));
+      told = c.date_text-date.ensures ∙ sym (day_text-date c.args.date)
+          ∙ ap day_text (c.requires ∙ sym (to_z-of_z fits));
     }
