@@ -17,7 +17,6 @@ use Rattle.oyster_account.specs.declared.reply.Reply.{Reply}
 use Rattle.oyster_account.specs.declared.reply.Judged.{Judged}
 use Rattle.fare_table.specs.declared.key.TheConstants.{HIGHEST_PRICE, MOST_CAPS}
 use Rattle.oyster_account.specs.declared.card.TheConstants.{HISTORY_LIMIT}
-use Rattle.oyster_account.specs.declared.totals.TheConstants.{CAP_LIMIT}
 use Rattle.oyster_account.specs.declared.travel.TheConstants.{SECONDS_PER_MINUTE}
 use Rattle.oyster_account.specs.declared.refusal.TheConstants.{TOP_UP_LIMIT}
 use Rattle.oyster_account.specs.declared.verdict.TheConstants.{FIRST_REFUSAL}
@@ -38,8 +37,8 @@ use Rattle.oyster_account.specs.Judge.{judge, revision_reply}
 a_million : HISTORY_LIMIT ≡ 1_000_000
 a_million = refl
 
-many_caps : (CAP_LIMIT ≡ 32) × (MOST_CAPS ≡ 32)
-many_caps = (refl, refl)
+many_caps : MOST_CAPS ≡ 32
+many_caps = refl
 
 -- minutes have sixty seconds, and no price is above 10,000 pence
 a_minute : SECONDS_PER_MINUTE ≡ 60

@@ -2,6 +2,7 @@
 
 ghost use Rattle.std.specs.Prelude.{◌≡◌, negsuc, pos, ◌^◌, ◌≤ℤ◌, ◌+◌, ◌<◌, ℕ, false};
 ghost use Rattle.std.specs.Prelude.{List, [], ◌∷◌};
+ghost use Rattle.oyster_account.specs.declared.card.TheConstants.{HISTORY_LIMIT};
 ghost use Rattle.oyster_account.specs.declared.touch.Act.{Act};
 ghost use Rattle.oyster_account.specs.Touch.{moment_of};
 ghost use Rattle.oyster_account.specs.Scheme.{Scheme, scheme_of};
@@ -58,7 +59,7 @@ impl Account {
     /// Judges an act: `apply` on a copy. The stamp is that of its moment.
     pub fn judge(&self, schedule: &Schedule, act: &Act, stamp: &Stamp) -> Judgement
         requires stamped { stamp.now ≡ (scheme_of schedule.now).stamp (moment_of act.now) }
-        requires safe { IsAccountSafe (scheme_of schedule.now) 1_000_000 self.now }
+        requires safe { IsAccountSafe (scheme_of schedule.now) HISTORY_LIMIT self.now }
         requires stands { (acts : List Act) × IsInOrder (travel (scheme_of schedule.now) acts)
             × IsAccountOf (scheme_of schedule.now) acts self.now }
         ensures { (acts : List Act) → IsInOrder (travel (scheme_of schedule.now) acts)
@@ -73,7 +74,7 @@ impl Account {
     #[inline(always)]
     pub fn apply(&mut self, schedule: &Schedule, act: &Act, stamp: &Stamp) -> Judgement
         requires stamped { stamp.now ≡ (scheme_of schedule.now).stamp (moment_of act.now) }
-        requires safe { IsAccountSafe (scheme_of schedule.now) 1_000_000 self.old }
+        requires safe { IsAccountSafe (scheme_of schedule.now) HISTORY_LIMIT self.old }
         requires stands { (acts : List Act) × IsInOrder (travel (scheme_of schedule.now) acts)
             × IsAccountOf (scheme_of schedule.now) acts self.old }
         ensures judged { (acts : List Act) → IsInOrder (travel (scheme_of schedule.now) acts)
@@ -115,7 +116,7 @@ impl Account {
     fn add(&mut self, schedule: &Schedule, act: &Act, stamp: &Stamp) -> Acceptance
         requires stamped { stamp.now ≡ (scheme_of schedule.now).stamp (moment_of act.now) }
         requires sound { IsSound ((scheme_of schedule.now).on stamp.now.day) act.now }
-        requires safe { IsAccountSafe (scheme_of schedule.now) 1_000_000 self.old }
+        requires safe { IsAccountSafe (scheme_of schedule.now) HISTORY_LIMIT self.old }
         ensures acceptance { (acts : List Act) → IsAccountOf (scheme_of schedule.now) acts self.old
             → result ≡ acceptance (scheme_of schedule.now)
             (travel (scheme_of schedule.now) acts) act.now }

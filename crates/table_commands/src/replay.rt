@@ -3,6 +3,7 @@
 ghost use Rattle.std.specs.Prelude.{◌≡◌, ◌⊎◌, IfOk, IfErr, OnOk, map, option_map};
 ghost use Rattle.std.specs.Process.{exit_status};
 ghost use Rattle.command_line.specs.Arguments.{IsWithin};
+ghost use Rattle.reply_book.specs.declared.book.TheConstants.{CARD_LIMIT};
 ghost use Rattle.table_commands.specs.Tables.{AreRefused};
 ghost use Rattle.table_commands.specs.Replay.{IsWhole, IsUnasked, HasReplayed, HasEndedEarly};
 
@@ -27,7 +28,7 @@ pub fn replay_input<F: WholeFiles, R: Read, W: Write>(
     reader: &mut R,
     writer: &mut W,
 ) -> Result<ExitCode, TrialFault>
-    requires { IsWithin 100_000 cards }
+    requires { IsWithin CARD_LIMIT cards }
     ensures ok { OnOk result (HasReplayed (F.gave files.now)
         (option_map (λ word. word.now) table.entry) (map (λ word. word.now) revisions.now) cards
         (R.remaining reader.old) (R.remaining reader.new)
