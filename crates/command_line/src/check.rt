@@ -1,6 +1,6 @@
 //! The check of a fare table that the words of a command line ask for.
 
-ghost use Rattle.std.specs.Prelude.{◌≡◌, ◌≤◌, IfSome};
+ghost use Rattle.std.specs.Prelude.{◌≤◌, IfSome};
 ghost use Rattle.command_line.specs.Arguments.{IsJourneyAllowed, IsCheckAllowed};
 
 use crate::number::short_in;

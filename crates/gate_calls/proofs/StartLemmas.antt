@@ -1,5 +1,5 @@
 -- Where the law over a gate and its station begins.
-use Rattle.std.proofs.Common.{◌≡◌, List, [], refl, sym, ap, is_some}
+use Rattle.std.proofs.Common.{List, [], refl, sym, ap, is_some}
 use Rattle.reply_book.specs.declared.entry.Entry.{Entry}
 use Rattle.reply_book.specs.Legal.{touches_of}
 use Rattle.tap_disk.specs.declared.disk.Disk.{Ghosts}

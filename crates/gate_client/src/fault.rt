@@ -1,5 +1,5 @@
 //! Why a gate's file can't be made or opened, and why a touch isn't kept, sent or answered.
-ghost use Rattle.std.specs.Prelude.{◌≡◌, Some, codes};
+ghost use Rattle.std.specs.Prelude.{Some, codes};
 ghost use Rattle.gate_client.specs.Texts.{printed_file_fault, printed_ask_fault};
 ghost use Rattle.gate_client.specs.Texts.{printed_hear_fault};
 

@@ -1,5 +1,5 @@
 //! What a client writes of its touch, and reads of an answer (docs/PROTOCOL.md, "Frames").
-ghost use Rattle.std.specs.Prelude.{◌≡◌, ◌≤◌, ◌∷◌, ℕ, Result, Err, IfOk, IfErr, IfSome, take};
+ghost use Rattle.std.specs.Prelude.{◌≡◌, ◌≤◌, ℕ, Result, Err, IfOk, IfErr, IfSome, take};
 ghost use Rattle.std.specs.Io.KnownBytes.{Consumes};
 ghost use Rattle.oyster_account.specs.declared.touch.TheConstants.{TOUCH_SIZE};
 ghost use Rattle.oyster_account.specs.Touch.{Fits};

@@ -1,6 +1,6 @@
 //! What the words of the command line ask for, as `clap` reads them.
 
-ghost use Rattle.std.specs.Prelude.{◌≡◌, IfOk, IfSome};
+ghost use Rattle.std.specs.Prelude.{IfOk, IfSome};
 ghost use Rattle.gate_send.specs.Arguments.{IsAllowed, IsWithin};
 
 use clap::error::ErrorKind;

@@ -1,5 +1,5 @@
 //! The line of a reply: the fields of a row of `history` from the gate on.
-ghost use Rattle.std.specs.Prelude.{◌≡◌, Some};
+ghost use Rattle.std.specs.Prelude.{Some};
 ghost use Rattle.gate_sending.specs.Told.{told_text, act_text, verdict_text};
 
 use oyster_account::{Act, Reply, Touch, verdict_name};

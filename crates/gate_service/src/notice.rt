@@ -2,7 +2,7 @@
 //! of its lines serve than were asked for, gates wait for a line, a gate is ahead, or how it
 //! stands.
 
-ghost use Rattle.std.specs.Prelude.{◌≡◌, ◌↔◌, ◌≤◌, IsTrue};
+ghost use Rattle.std.specs.Prelude.{◌≡◌, ◌↔◌, IsTrue};
 ghost use Rattle.gate_service.specs.Notice.{IsNearlyFull, notice_of};
 
 use jiff::civil::Date;

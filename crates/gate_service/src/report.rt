@@ -1,6 +1,6 @@
 //! What `serve` writes on standard output (docs/COMMANDS.md, "The report"). It takes no memory.
 
-ghost use Rattle.std.specs.Prelude.{◌≡◌, OnOk};
+ghost use Rattle.std.specs.Prelude.{OnOk};
 ghost use Rattle.std.specs.Io.KnownBytes.{Appends};
 ghost use Rattle.gate_service.specs.Report.{opened_line, tally_line, tally_lines, end_line};
 ghost use Rattle.gate_service.specs.Report.{report_text};

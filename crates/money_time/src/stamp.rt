@@ -1,5 +1,5 @@
 //! The stamp of a moment: its fare day, its minute and its window.
-ghost use Rattle.std.specs.Prelude.{◌≡◌, ◌≤◌, ◌<◌, ◌<ℤ◌, ◌≤ℤ◌, pos};
+ghost use Rattle.std.specs.Prelude.{◌≡◌, ◌<◌, ◌<ℤ◌};
 ghost use Rattle.money_time.specs.Stamp.{fare_day_of, by_holidays, window_of, clock_window};
 ghost use Rattle.money_time.specs.Stamp.{is_working_day, is_weekday, is_listed};
 

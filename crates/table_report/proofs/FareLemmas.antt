@@ -1,6 +1,5 @@
 -- What the account charges for a journey by itself.
 use Rattle.std.proofs.Common.{◌≡◌, ◌+◌, Bool, true, false, List, [], ◌∷◌, map, refl, ap, ◌∙◌, arith}
-use Rattle.std.specs.Ordering.{int_eq}
 use Rattle.fare_table.specs.declared.rows.Cap.{Cap}
 use Rattle.oyster_account.specs.declared.travel.Passage.{Passage}
 use Rattle.oyster_account.specs.declared.journey.Journey.{Journey}

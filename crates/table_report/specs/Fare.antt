@@ -10,7 +10,7 @@ use Rattle.fare_table.specs.declared.fare.Fare.{Fare}
 use Rattle.fare_table.specs.declared.rows.Cap.{Cap}
 use Rattle.oyster_account.specs.declared.travel.Passage.{Passage}
 use Rattle.oyster_account.specs.Scheme.{scheme_by}
-use Rattle.oyster_account.specs.Travel.{Tap, In, Out}
+use Rattle.oyster_account.specs.Travel.{In, Out}
 use Rattle.oyster_account.specs.Leg.{is_in_time}
 use Rattle.oyster_account.specs.Parts.{part_of}
 use Rattle.oyster_account.specs.Charge.{travel_charge}

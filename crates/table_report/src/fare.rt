@@ -1,7 +1,7 @@
 //! What a journey costs by a fare table, and why.
 
 ghost use Rattle.std.specs.Prelude.{◌≡◌, ◌⊎◌, None, Some, IsSome, IfOk, IfErr, map};
-ghost use Rattle.fare_table.specs.Fare.{station_at, stamp_of, fare_of};
+ghost use Rattle.fare_table.specs.Fare.{station_at, stamp_of};
 ghost use Rattle.fare_table.specs.Fares.{content_of};
 ghost use Rattle.oyster_account.specs.Charge.{is_covered, least};
 ghost use Rattle.oyster_account.specs.Parts.{part_of};

@@ -1,8 +1,6 @@
 //! Prices that are valid and may not be meant: pounds for pence, and caps below a fare that they
 //! cover.
 
-ghost use Rattle.std.specs.Prelude.{◌≡◌};
-
 use crate::tree::{rows_at, text_in, whole_at, whole_in};
 use fare_table::Key;
 use std::alloc::{AllocError, Global};

@@ -1,6 +1,6 @@
 //! The survey of a text that may be a fare table.
 
-ghost use Rattle.std.specs.Prelude.{◌≡◌, IfOk};
+ghost use Rattle.std.specs.Prelude.{IfOk};
 ghost use Rattle.toml.specs.View.{table_view};
 ghost use Rattle.table_report.specs.Survey.{CountsRows};
 

@@ -1,5 +1,5 @@
 //! Laws of the office, each the contract of a call that does nothing.
-ghost use Rattle.std.specs.Prelude.{◌≡◌, ℕ, ◌<◌, ◌≤◌, List, length, take, Some, slice_get};
+ghost use Rattle.std.specs.Prelude.{◌≡◌, ℕ, ◌<◌, List, length, take, Some, slice_get};
 ghost use Rattle.tap_journal.specs.Layout.{Header};
 ghost use Rattle.reply_book.specs.Legal.{history_of};
 ghost use Rattle.tap_office.specs.Given.{IsLegalFor};

@@ -1,5 +1,5 @@
 //! The office: a keeper behind a lock.
-ghost use Rattle.std.specs.Prelude.{◌≡◌, ◌≢◌, ◌↔◌, ◌≤◌, length, IfOk, OnErr, MatchResult};
+ghost use Rattle.std.specs.Prelude.{◌≡◌, ◌≢◌, ◌↔◌, length, IfOk, OnErr, MatchResult};
 ghost use Rattle.std.specs.List.{All};
 ghost use Rattle.reply_book.specs.Book.{entries_of};
 ghost use Rattle.tap_desk.specs.LogPoints.{logged_at};

@@ -1,6 +1,6 @@
 //! A seat, with the receipts that were filed for it.
-ghost use Rattle.std.specs.Prelude.{◌≡◌, ◌↔◌, ℕ, ◌+◌, ◌-◌, ◌^◌, ◌<◌, ◌≤◌, List, [], ◌∷◌, ◌++◌};
-ghost use Rattle.std.specs.Prelude.{true, length, IfOk, OnOk, OnErr, IsTrue};
+ghost use Rattle.std.specs.Prelude.{◌≡◌, ◌↔◌, ◌-◌, ◌^◌, ◌<◌, ◌≤◌};
+ghost use Rattle.std.specs.Prelude.{true, length, IsTrue};
 ghost use Rattle.std.specs.List.{All};
 ghost use Rattle.reply_book.specs.Book.{entries_of};
 ghost use Rattle.tap_office.specs.Seat.{fresh_seat};

@@ -1,6 +1,6 @@
 //! The journal of a server: its file is taken, and made where there is none and that is allowed.
 
-ghost use Rattle.std.specs.Prelude.{◌≡◌, true, false, IfErr, IfOk};
+ghost use Rattle.std.specs.Prelude.{true, false};
 
 use crate::failure::{ErrorText, Failure};
 use crate::noted::NotedDisk;

@@ -3,7 +3,7 @@ mod in_force;
 mod memory;
 mod supply;
 
-ghost use Rattle.std.specs.Prelude.{◌≡◌, IsTrue};
+ghost use Rattle.std.specs.Prelude.{IsTrue};
 ghost use Rattle.fare_schedule.specs.Schedule.{IsAfterLast};
 
 use fare_schedule::{Schedule, SupplyFault};

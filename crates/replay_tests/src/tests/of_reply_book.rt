@@ -3,7 +3,7 @@
 //! Each test lets go of its book by a call of `drop`: a function in which a book goes out of scope
 //! takes several times as long to prove.
 
-ghost use Rattle.std.specs.Prelude.{◌≡◌, ◌<◌, ◌≤◌, ◌+◌, length, [], true, IsTrue};
+ghost use Rattle.std.specs.Prelude.{◌≡◌, ◌<◌, ◌+◌, length, [], true, IsTrue};
 ghost use Rattle.fare_schedule.specs.Schedule.{revisions_of};
 ghost use Rattle.oyster_account.specs.Touch.{moment_of};
 ghost use Rattle.reply_book.specs.declared.entry.Found.TheVariants.{New};

@@ -1,4 +1,4 @@
-use Rattle.std.proofs.Common.{◌≡◌, ℕ, List, map, Option, option_map, subst, sym, Bor}
+use Rattle.std.proofs.Common.{ℕ, List, map, Option, option_map, subst, sym, Bor}
 use Rattle.journal_commands.specs.Verified.{AreTablesRefused, AreWordsRefused}
 use Rattle.journal_commands.proofs.WordLemmas.{handed-on}
 use Rattle.journal_commands.proofs.audit.tables_asked.Goals as goal

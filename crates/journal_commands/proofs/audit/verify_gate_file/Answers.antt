@@ -1,8 +1,7 @@
-use Rattle.std.proofs.Common.{◌≡◌, ◌∙◌, inl, inr, refl}
+use Rattle.std.proofs.Common.{◌≡◌, ◌∙◌, inr, refl}
 use Rattle.std.specs.Process.{exit_status}
 use Rattle.journal_commands.specs.Command.{audit_fault}
 use Rattle.journal_commands.specs.Verified.{status_of}
-use Rattle.journal_commands.specs.declared.fault.CommandFault.TheVariants.{Trial}
 use Rattle.journal_commands.proofs.WordLemmas.{handed-on}
 use Rattle.journal_commands.proofs.audit.verify_gate_file.Goals as goal
 

@@ -1,4 +1,4 @@
-use Rattle.std.proofs.Common.{◌≡◌, inl, inr, refl}
+use Rattle.std.proofs.Common.{inl, inr, refl}
 use Rattle.reply_book.specs.Tables.{tables_in}
 use Rattle.journal_commands.specs.Command.{audit_fault}
 use Rattle.journal_commands.specs.declared.fault.CommandFault.TheVariants.{Trial}

@@ -1,4 +1,3 @@
-use Rattle.std.proofs.Common.{◌≡◌}
 use Rattle.journal_commands.proofs.migrate.carry_over.Goals as goal
 
 -- the disks are those of the words, and the new journal stands for the touches of the old one

@@ -1,4 +1,3 @@
-use Rattle.std.proofs.Common.{◌≡◌}
 use Rattle.journal_commands.proofs.migrate.migrate_journal.Goals as goal
 
 -- the table is that of the word, and its digest is the one that the journal was carried over by

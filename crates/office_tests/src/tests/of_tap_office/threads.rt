@@ -1,5 +1,5 @@
 //! Seats on threads of their own.
-ghost use Rattle.std.specs.Prelude.{◌<◌, ◌≡◌, length};
+ghost use Rattle.std.specs.Prelude.{◌<◌, length};
 ghost use Rattle.std.specs.Thread.{IsSync};
 ghost use Rattle.tap_office.specs.Name.{IsNameOf};
 ghost use Rattle.tap_office.specs.Opening.{opened_of};

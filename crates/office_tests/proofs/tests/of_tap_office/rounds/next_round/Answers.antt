@@ -13,8 +13,8 @@ use Rattle.tap_journal.specs.Image.{Image}
 use Rattle.tap_journal.proofs.OneLemmas.{one_journal}
 use Rattle.reply_book.specs.declared.book.Book.{Book}
 use Rattle.reply_book.specs.Book.{Stands, entries_of, cards_of, tables_of}
-use Rattle.reply_book.specs.Legal.{history_of, touches_of, touches_in, book}
-use Rattle.reply_book.specs.Tables.{Tables, listed, AreKnown}
+use Rattle.reply_book.specs.Legal.{history_of, touches_of, book}
+use Rattle.reply_book.specs.Tables.{listed, AreKnown}
 use Rattle.reply_book.proofs.CallerLemmas.{stands-is_book}
 use Rattle.reply_book.proofs.LegalLemmas.{legal-is_book, touches_in-history_of}
 use Rattle.tap_office.specs.Files.{AreReadFrom, HaveOwnDigests, AreOfSameFiles, DoSameFilesKeepReplies}
