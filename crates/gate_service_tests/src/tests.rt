@@ -1,4 +1,3 @@
-mod fakes;
 mod notices;
 mod report;
 mod scripts;

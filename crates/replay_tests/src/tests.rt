@@ -1,6 +1,5 @@
 //! A module for each library, of its public names alone.
 
-mod fakes;
 mod of_gate_session;
 mod of_line_replay;
 mod of_reply_book;

@@ -1,8 +1,8 @@
 //! Touches that are sent, and answers that are read, over lines that fail.
-use super::fakes::{Giver, Taker};
 use super::*;
 use gate_client::LineFault;
 use std::io::{Read, Write};
+use test_streams::{Pieces, Taker};
 
 /// A client that was asked for the row's touch, as after an opening: it waits.
 fn asked(rt: &impl Abort, alloc: Global) -> Client<MemoryDisk> {
@@ -32,8 +32,10 @@ fn assert_cut(
     let frame = ROWS[0].frame;
     let mut taker = Taker {
         taken: Vec::new(alloc),
+        size: 1,
         left,
         fails,
+        holds: false,
     };
     let want = if left < frame.len() {
         Err(LineFault)
@@ -98,8 +100,9 @@ fn heard<R: Read>(
 
 /// That an answer which ends or fails after so many bytes is none, and the touch waits on.
 fn assert_short(rt: &impl Abort, client: &mut Client<MemoryDisk>, size: usize, fails: bool) {
-    let mut giver = Giver {
+    let mut giver = Pieces {
         rest: ROWS[0].answer.get(..size).unwrap_or(&[]),
+        size: 1,
         fails,
     };
     assert_same_at(
@@ -118,8 +121,9 @@ fn an_answer_that_is_cut_is_none(rt: HostRuntime) {
     for size in 0..22 {
         assert_short(&rt, &mut client, size, size % 2 == 0);
     }
-    let mut giver = Giver {
+    let mut giver = Pieces {
         rest: ROWS[0].answer,
+        size: 1,
         fails: true,
     };
     assert_same(&rt, heard(&rt, &mut client, &mut giver), Ok(ROWS[0].reply));

@@ -1,10 +1,10 @@
 //! Lines that ask for touches, touches that are settled over lines that fail, and what is printed.
 ghost use Rattle.std.specs.Prelude.{⊤};
 
-use super::fakes::{Giver, Taker};
 use super::*;
 use gate_sending::{Asked, Line, SettleFault, Station, Told, TryFault, asked_by, exchange, settle};
 use std::fmt::Display;
+use test_streams::{Pieces, Taker};
 
 /// The clock of the tests.
 const NOW: u32 = 1_736_149_800;
@@ -317,11 +317,14 @@ fn assert_cut(rt: &impl Abort, alloc: Global, client: &mut Client<MemoryDisk>, l
     assert!(rt; waits);
     let mut taker = Taker {
         taken: Vec::new(alloc),
+        size: 1,
         left,
         fails: left % 2 == 0,
+        holds: false,
     };
-    let mut giver = Giver {
+    let mut giver = Pieces {
         rest: ROWS[0].answer,
+        size: 1,
         fails: false,
     };
     let found = exchange(client, &mut giver, &mut taker);

@@ -1,11 +1,11 @@
 //! The lines that `serve` writes, worked out by hand.
 
-use super::fakes::Taker;
 use super::{assert_same, assert_same_at};
 use gate_service::{Tally, write_opened, write_report};
 use std::alloc::Global;
 use std::process::Abort;
 use std::test::Fail;
+use test_streams::Taker;
 
 /// What came of two lines.
 const TALLIES: [Tally; 2] = [
@@ -60,6 +60,7 @@ fn told(alloc: Global, left: usize, fails: bool) -> (Vec<u8>, bool) {
         size: 5,
         left,
         fails,
+        holds: false,
     };
     let is_told = write_report(&mut writer, &TALLIES, false, 7).is_ok();
     (writer.taken, is_told)

@@ -3,7 +3,6 @@
 ghost use Rattle.tap_office.specs.Name.{IsNameOf};
 ghost use Rattle.tap_office.specs.Opening.{opened_of};
 
-use super::fakes::{Pieces, Taker};
 use super::notices::Counting;
 use super::*;
 use gate_service::OfficeClerk;
@@ -12,6 +11,7 @@ use std::marker::Brand;
 use std::sync::Wait;
 use std::sync::atomic::{AtomicU64, Ordering};
 use tap_office::{Desk, Named, Office, Seat};
+use test_streams::{Pieces, Taker};
 
 /// The first example: card 1 is issued by gate 7 at 07:50 on Monday, 6 January 2025, topped up by
 /// 20 pounds at 07:55, touched in at station 2 at 08:00, and out at station 1 at 08:25.
@@ -108,6 +108,7 @@ fn session<N: Named, R: Wait>(
         size: trial.piece,
         left: trial.room,
         fails: trial.writer_fails,
+        holds: false,
     };
     let watch = Counting {
         accepted: AtomicU64::new(0),

@@ -9,7 +9,6 @@ mod rows;
 ghost use Rattle.std.specs.Prelude.{◌≡◌, [], IfSome};
 ghost use Rattle.fare_schedule.specs.Schedule.{revisions_of};
 
-use crate::tests::fakes::{Pieces, Taker};
 use fare_schedule::Schedule;
 use fare_table::{EXAMPLE_TABLE, Fares};
 use line_replay::{ReplayFault, replay_text};
@@ -19,6 +18,7 @@ use std::fmt::Debug;
 use std::io::{Read, Write};
 use std::process::Abort;
 use std::test::Fail;
+use test_streams::{Pieces, Taker};
 use text_io::RunFault;
 
 /// A line that is asked, and the line that answers it.

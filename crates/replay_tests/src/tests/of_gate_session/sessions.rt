@@ -3,12 +3,12 @@
 use super::fakes::{Meter, Morning, Patient};
 use super::vectors::{ANSWERS, BAD_FRAME, FRAMES};
 use super::{assert_same, assert_same_at, joined};
-use crate::tests::fakes::{Pieces, Taker};
 use gate_session::{End, Served, serve};
 use std::alloc::{AllocError, Global};
 use std::cell::Cell;
 use std::sync::Wait;
 use std::test::Fail;
+use test_streams::{Pieces, Taker};
 
 /// A session under test: how its reader and its writer behave.
 #[derive(Clone, Copy)]

@@ -1,12 +1,12 @@
 //! Tables that are checked, with what is written worked out by hand.
 
 use super::assert_same_at;
-use crate::tests::fakes::{Pieces, Taker};
 use fare_table::EXAMPLE_TABLE;
 use std::alloc::Global;
 use std::process::Abort;
 use std::test::Fail;
 use table_report::check_table;
+use test_streams::{Pieces, Taker};
 use text_io::RunFault;
 
 /// The digest is that of the system's `sha256sum`.

@@ -1,9 +1,9 @@
 //! Inputs that are read whole.
 
 use super::assert_same_at;
-use crate::tests::fakes::Pieces;
 use std::alloc::{AllocError, Global};
 use std::test::Fail;
+use test_streams::Pieces;
 use text_io::{RunFault, read_all};
 
 /// 2,500 bytes: 0 to 249, ten times.

@@ -1,8 +1,8 @@
 //! Texts that are written whole, or in part.
 
 use super::{assert_same, assert_same_at};
-use crate::tests::fakes::Taker;
 use std::alloc::Global;
+use test_streams::Taker;
 use text_io::{WriteFault, write_text, write_whole};
 
 /// A writer that takes `room` bytes in all, two a write, and then nothing.
