@@ -1,56 +1,27 @@
 //! Balances of which a write fails, or that are refused memory.
 
 use super::*;
-use std::io;
-use std::io::{ErrorKind, Write};
+use std::io::Cursor;
+use test_streams::Taker;
 
 /// How often balances that were refused memory are begun again.
 const TRIES: u32 = 10;
-
-/// Takes at most 7 bytes a write and `left` in all, and fails behind them. It takes no memory.
-#[derive(Drop)]
-struct Taker {
-    bytes: [u8; 128],
-    size: usize,
-    left: usize,
-}
-
-impl Write for Taker {
-    fn write(&mut self, buf: &[u8]) -> io::Result<usize> {
-        if self.left == 0 {
-            return Err(io::Error::from(ErrorKind::Other));
-        }
-        let rest = self.bytes.get_mut(self.size..).unwrap_or(&mut []);
-        let size = buf.len().min(rest.len()).min(self.left).min(7);
-        rest[..size].copy_from_slice(&buf[..size]);
-        self.size = self.size.saturating_add(size);
-        self.left -= size;
-        Ok(size)
-    }
-
-    fn flush(&mut self) -> io::Result<()> {
-        Ok(())
-    }
-}
-
-/// A taker of so many bytes.
-fn taker_of(left: usize) -> Taker {
-    Taker {
-        bytes: [0; 128],
-        size: 0,
-        left,
-    }
-}
 
 /// A writer of so many bytes takes the beginning of the worked journal's rows, and the balances
 /// fail where there are more.
 fn assert_begun<R: Abort + AllocGlobal>(rt: &R, bytes: &[u8], left: usize) -> Result<(), Fail> {
     let whole = b"card,state,balance,paid_in,charged\r\n1,outside,1650,2000,350\r\n";
     let schedule = example(rt.alloc()).ok_or("tables")?;
-    let mut writer = taker_of(left);
+    let mut writer = Taker {
+        taken: Vec::new(rt.alloc()),
+        size: 7,
+        left,
+        fails: true,
+        holds: false,
+    };
     let ended = write_balances(rt.alloc(), schedule, None, bytes, &mut writer);
     let size = whole.len().min(left);
-    assert_same_at(rt, writer.bytes.get(..writer.size), whole.get(..size), left);
+    assert_same_at(rt, Some(writer.taken.as_slice()), whole.get(..size), left);
     if left < whole.len() {
         assert_same_at(rt, ended, Err(AuditFault::Write), left);
     } else {
@@ -73,10 +44,10 @@ fn a_beginning_of_the_balances_stands_where_a_write_fails(rt: HostRuntime) -> Re
 fn attempt(rt: &impl Abort, alloc: Global) -> Option<Result<Totals, AuditFault>> {
     let bytes = journal(alloc, b'2', 64, &WORKED)?;
     let schedule = example(alloc)?;
-    let mut writer = taker_of(100);
-    let ended = write_balances(alloc, schedule, None, &bytes, &mut writer);
+    let mut room = Cursor::new([0; 128]);
+    let ended = write_balances(alloc, schedule, None, &bytes, &mut room);
     if ended.is_err() {
-        assert_same(rt, writer.size, 0);
+        assert_same(rt, room.position(), 0);
     }
     Some(ended)
 }

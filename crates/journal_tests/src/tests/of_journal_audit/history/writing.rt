@@ -1,31 +1,7 @@
 //! Histories of which a write fails.
 
 use super::*;
-use std::io;
-use std::io::{ErrorKind, Write};
-
-/// Takes at most 7 bytes a write and `left` in all, and fails behind them.
-#[derive(Drop)]
-struct Taker {
-    taken: Vec<u8>,
-    left: usize,
-}
-
-impl Write for Taker {
-    fn write(&mut self, buf: &[u8]) -> io::Result<usize> {
-        if self.left == 0 {
-            return Err(io::Error::from(ErrorKind::Other));
-        }
-        let size = self.left.min(buf.len()).min(7);
-        self.taken.extend_from_slice(&buf[..size])?;
-        self.left -= size;
-        Ok(size)
-    }
-
-    fn flush(&mut self) -> io::Result<()> {
-        Ok(())
-    }
-}
+use test_streams::Taker;
 
 /// A writer of so many bytes takes the beginning of the rows, and the history fails where there are
 /// more.
@@ -35,7 +11,10 @@ fn assert_begun<R: Abort + AllocGlobal>(rt: &R, whole: &str, left: usize) -> Res
     let schedule = example(alloc).ok_or("a schedule")?;
     let mut writer = Taker {
         taken: Vec::new(alloc),
+        size: 7,
         left,
+        fails: true,
+        holds: false,
     };
     let ended = write_history(alloc, schedule, ALL, HistoryFormat::Csv, bytes, &mut writer);
     let size = whole.len().min(left);
