@@ -5,32 +5,10 @@ ghost use Rattle.fare_schedule.specs.Schedule.{revisions_of};
 
 use super::tables::{example, of_example};
 use super::*;
-use std::io;
-use std::io::Write;
+use std::io::Cursor;
 
 /// How often an audit that was refused memory is begun again.
 const TRIES: u32 = 10;
-
-/// Takes bytes into an array, without memory.
-#[derive(Drop)]
-struct Room {
-    bytes: [u8; 512],
-    size: usize,
-}
-
-impl Write for Room {
-    fn write(&mut self, buf: &[u8]) -> io::Result<usize> {
-        let rest = self.bytes.get_mut(self.size..).unwrap_or(&mut []);
-        let size = buf.len().min(rest.len());
-        rest[..size].copy_from_slice(&buf[..size]);
-        self.size = self.size.saturating_add(size);
-        Ok(size)
-    }
-
-    fn flush(&mut self) -> io::Result<()> {
-        Ok(())
-    }
-}
 
 /// How the audit of the journal of the example table ends, with the tables that are named. Nothing
 /// is written where it was refused memory.
@@ -42,12 +20,10 @@ fn attempt(
     requires { IfSome schedule (λ s. revisions_of s ≡ []) }
 {
     let bytes = of_example();
-    let mut room = Room {
-        bytes: [0; 512],
-        size: 0,
-    };
+    let mut room = Cursor::new([0; 512]);
     let ended = audit_journal(alloc, schedule, SEALED, &bytes, &mut room);
-    let taken = room.bytes.get(..room.size).unwrap_or(&[]);
+    let size = room.position() as usize;
+    let taken = room.get_ref().get(..size).unwrap_or(&[]);
     if ended.is_ok() {
         assert_same(rt, taken.ends_with(b"\nsound\n"), true);
     } else {

@@ -1,32 +1,10 @@
 //! A history that is refused memory.
 
 use super::*;
-use std::io;
-use std::io::Write;
+use std::io::Cursor;
 
 /// How often a history that was refused memory is begun again.
 const TRIES: u32 = 10;
-
-/// Takes bytes into an array, without memory.
-#[derive(Drop)]
-struct Room {
-    bytes: [u8; 512],
-    size: usize,
-}
-
-impl Write for Room {
-    fn write(&mut self, buf: &[u8]) -> io::Result<usize> {
-        let rest = self.bytes.get_mut(self.size..).unwrap_or(&mut []);
-        let size = buf.len().min(rest.len());
-        rest[..size].copy_from_slice(&buf[..size]);
-        self.size = self.size.saturating_add(size);
-        Ok(size)
-    }
-
-    fn flush(&mut self) -> io::Result<()> {
-        Ok(())
-    }
-}
 
 /// How the history of the worked journal ends. So short a one stands in one piece: nothing is
 /// written where it was refused memory. There is none where there was no memory for what it is
@@ -34,12 +12,10 @@ impl Write for Room {
 fn attempt(rt: &impl Abort, alloc: Global) -> Option<Result<(), AuditFault>> {
     let schedule = example(alloc)?;
     let bytes = journal(alloc, false, &FRAMES)?;
-    let mut room = Room {
-        bytes: [0; 512],
-        size: 0,
-    };
+    let mut room = Cursor::new([0; 512]);
     let ended = write_history(alloc, schedule, ALL, HistoryFormat::Csv, bytes, &mut room);
-    let taken = room.bytes.get(..room.size).unwrap_or(&[]);
+    let size = room.position() as usize;
+    let taken = room.get_ref().get(..size).unwrap_or(&[]);
     if ended.is_ok() {
         assert_same(rt, taken.ends_with(b",Exited,550,1650\r\n"), true);
     } else {
