@@ -5,6 +5,7 @@ mod counts;
 mod ends;
 mod fares;
 mod forms;
+mod keys;
 mod limits;
 mod links;
 mod lists;

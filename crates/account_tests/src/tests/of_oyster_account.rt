@@ -18,7 +18,9 @@ use self::wanderer::Wanderer;
 use self::wide::WIDE_TABLE;
 use fare_schedule::Schedule;
 use fare_table::Fares;
-use oyster_account::{Acceptance, Act, Card, CardState, Judged, Refusal, Reply, Touch};
+use oyster_account::{
+    Acceptance, Act, Card, CardState, Judged, Refusal, Reply, Touch, verdict_name,
+};
 use std::alloc::{AllocError, Global};
 use std::fmt::Debug;
 use std::process::Abort;
@@ -325,4 +327,37 @@ fn a_reply_has_the_code_of_its_verdict(rt: HostRuntime) {
         balance: 0,
     };
     assert_same(&rt, Reply::unknown_card(), want);
+}
+
+/// Codes with the names that docs/FARES.md, "Verdicts", has for them, and some that have none.
+const VERDICTS: [(u8, Option<&str>); 22] = [
+    (0, None),
+    (1, Some("Entered")),
+    (2, Some("EnteredContinued")),
+    (3, Some("EnteredOverOpen")),
+    (4, Some("Exited")),
+    (5, Some("ExitedUnstarted")),
+    (6, Some("ExitedLate")),
+    (7, Some("ToppedUp")),
+    (8, Some("Issued")),
+    (9, Some("Revised")),
+    (10, None),
+    (19, None),
+    (20, Some("UnknownCard")),
+    (21, Some("AlreadyIssued")),
+    (22, Some("UnknownStation")),
+    (23, Some("Backwards")),
+    (24, Some("LowBalance")),
+    (25, Some("BadAmount")),
+    (26, Some("OverLimit")),
+    (27, Some("BadDay")),
+    (28, None),
+    (255, None),
+];
+
+#[test]
+fn a_verdict_has_the_name_of_its_code(rt: HostRuntime) {
+    for (code, name) in VERDICTS {
+        assert_same_at(&rt, verdict_name(code), name, code);
+    }
 }

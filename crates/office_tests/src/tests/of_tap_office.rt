@@ -2,6 +2,7 @@
 //! crash, each refused allocation, seats on threads, and that it answers at all.
 mod crashes;
 mod desks;
+mod keepers;
 mod memory;
 mod migration;
 mod openings;

@@ -3,7 +3,9 @@
 
 mod changes;
 mod check;
+mod fare;
 mod notes;
+mod rows;
 
 use std::fmt::Debug;
 use std::process::Abort;

@@ -1,6 +1,7 @@
 //! The bytes of a touch, with the values of docs/PROTOCOL.md.
 
 use super::*;
+use oyster_account::{read_i32, read_u16, read_u32};
 
 /// The touch has these bytes, and is read from them and with others behind them.
 fn assert_bytes(rt: &impl Abort, touch: Touch, bytes: &[u8]) {
@@ -86,4 +87,21 @@ fn a_touch_has_its_bytes_and_is_read_from_them(rt: HostRuntime) {
     assert_same(&rt, Touch::read(&[0; 51]), None);
     assert_same(&rt, Touch::read(&[5; 51]), None);
     assert_same(&rt, Touch::read(&[7; 51]), None);
+}
+
+#[test]
+fn a_number_is_read_by_its_highest_byte_first(rt: HostRuntime) {
+    let none: &[u8] = &[];
+    assert_same(&rt, read_u16(&[1, 2, 3]), Some((258, [3].as_slice())));
+    assert_same(&rt, read_u16(&[0xff, 0xfe]), Some((65_534, none)));
+    assert_same(&rt, read_u16(&[1]), None);
+    let moment = [0x67, 0x7b, 0x8d, 0x80, 4, 5];
+    let read = Some((1_736_150_400, [4, 5].as_slice()));
+    assert_same(&rt, read_u32(&moment), read);
+    assert_same(&rt, read_u32(&moment[..3]), None);
+    let days = [0xff, 0xff, 0xff, 0xfd, 0, 0, 0x4e, 0x7f];
+    let read = Some((-3, [0, 0, 0x4e, 0x7f].as_slice()));
+    assert_same(&rt, read_i32(&days), read);
+    assert_same(&rt, read_i32(&days[4..]), Some((20_095, none)));
+    assert_same(&rt, read_i32(&days[..3]), None);
 }

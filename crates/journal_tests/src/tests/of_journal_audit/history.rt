@@ -50,7 +50,7 @@ const ALL: Wanted = Wanted {
 };
 
 /// A schedule of the example table alone. There is none for want of memory.
-fn example(alloc: Global) -> Option<Schedule>
+pub fn example(alloc: Global) -> Option<Schedule>
     ensures { IfSome result (λ schedule. revisions_of schedule ≡ []) }
 {
     let first = Fares::read(alloc, EXAMPLE_TABLE).ok()?;

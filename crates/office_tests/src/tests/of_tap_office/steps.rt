@@ -39,7 +39,7 @@ pub fn worked(opened: u32, balance: i64, entries: u32) -> Outcome {
 }
 
 /// Has a desk learn a receipt: it is answered of more entries than the touch's place.
-fn learn<N: Named>(rt: &impl Abort, desk: &mut Desk<N>, receipt: Receipt<N>) -> Answer {
+pub fn learn<N: Named>(rt: &impl Abort, desk: &mut Desk<N>, receipt: Receipt<N>) -> Answer {
     let place = receipt.place;
     let answer = if receipt.fresh {
         Answer::First(place, receipt.reply)

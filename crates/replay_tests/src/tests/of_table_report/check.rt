@@ -1,11 +1,11 @@
 //! Tables that are checked, with what is written worked out by hand.
 
 use super::assert_same_at;
-use fare_table::EXAMPLE_TABLE;
+use fare_table::{EXAMPLE_TABLE, TableFault};
 use std::alloc::Global;
 use std::process::Abort;
 use std::test::Fail;
-use table_report::check_table;
+use table_report::{check_bytes, check_table, report_table};
 use test_streams::{Pieces, Taker};
 use text_io::RunFault;
 
@@ -22,7 +22,7 @@ fn checked(alloc: Global, bytes: &[u8]) -> (Vec<u8>, Result<bool, RunFault>) {
 }
 
 /// A table with one text in it replaced.
-fn changed(alloc: Global, table: &str, from: &str, to: &str) -> Result<String, Fail> {
+pub fn changed(alloc: Global, table: &str, from: &str, to: &str) -> Result<String, Fail> {
     let (front, back) = table.split_once(from).ok_or("no such text")?;
     Ok(format!(in alloc; "{front}{to}{back}")?)
 }
@@ -42,6 +42,38 @@ fn assert_checked<R: Abort + AllocGlobal>(
 #[test]
 fn a_valid_table_is_told_by_its_rows_and_its_digest(rt: HostRuntime) {
     assert_checked(&rt, EXAMPLE_TABLE.as_bytes(), Ok(true), EXAMPLE_LINES);
+}
+
+#[test]
+fn the_bytes_of_a_table_are_told_in_the_same_lines(rt: HostRuntime) {
+    let mut written = Vec::new(rt.alloc());
+    let answer = check_bytes(rt.alloc(), EXAMPLE_TABLE.as_bytes(), &mut written);
+    assert_same_at(&rt, answer, Ok(true), "answer");
+    let lines = EXAMPLE_LINES.as_bytes();
+    assert_same_at(&rt, written.as_slice(), lines, "lines");
+}
+
+/// The report on these bytes has this fault, or none, and writes these lines.
+fn assert_reported<R: Abort + AllocGlobal>(
+    rt: &R,
+    bytes: &[u8],
+    fault: Option<TableFault>,
+    lines: &str,
+) -> Result<(), Fail> {
+    let report = report_table(rt.alloc(), bytes)?;
+    assert_same_at(rt, report.fault(), fault, lines);
+    let mut written = Vec::new(rt.alloc());
+    let answer = report.write(&mut written);
+    assert_same_at(rt, answer, Ok(fault.is_none()), lines);
+    assert_same_at(rt, written.as_slice(), lines.as_bytes(), lines);
+    Ok(())
+}
+
+#[test]
+fn a_report_has_the_fault_that_it_writes(rt: HostRuntime) -> Result<(), Fail> {
+    assert_reported(&rt, EXAMPLE_TABLE.as_bytes(), None, EXAMPLE_LINES)?;
+    let line = "fault table 2 NotToml\n";
+    assert_reported(&rt, b"x =", Some(TableFault::NotToml), line)
 }
 
 #[test]

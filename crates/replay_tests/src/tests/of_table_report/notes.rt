@@ -112,6 +112,25 @@ fn an_unknown_key_is_told_with_the_one_that_was_meant(rt: HostRuntime) -> Result
     Ok(())
 }
 
+/// Texts, each with whether its first unknown key is one of the table itself that stands in a row.
+static MISPLACED: [(&str, bool); 4] = [
+    ("[[cap]]\nlo = 1\nholidays = []", true),
+    ("station = [{id = 1, zone = 1}]", true),
+    ("[[cap]]\nlo = 1\nhigh = 2", false),
+    ("holiday = []", false),
+];
+
+#[test]
+fn a_key_of_the_table_in_a_row_is_misplaced(rt: HostRuntime) -> Result<(), Fail> {
+    let alloc = rt.alloc();
+    for (text, want) in MISPLACED.as_slice() {
+        let survey = survey_of(alloc, *text)?;
+        let unknown = survey.unknown.first().ok_or("no unknown key")?;
+        assert_same_at(&rt, unknown.is_misplaced(), *want, *text);
+    }
+    Ok(())
+}
+
 #[test]
 fn the_rows_of_lists_that_may_be_left_out_are_counted(rt: HostRuntime) -> Result<(), Fail> {
     let text = "pair = [1, {}]\nholidays = [\"x\", 2, 3]\n[[interchange]]\n";

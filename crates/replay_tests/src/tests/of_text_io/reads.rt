@@ -1,10 +1,10 @@
-//! Inputs that are read whole.
+//! Inputs that are read piece by piece, and whole.
 
 use super::assert_same_at;
 use std::alloc::{AllocError, Global};
 use std::test::Fail;
 use test_streams::Pieces;
-use text_io::{RunFault, read_all};
+use text_io::{RunFault, read_all, read_piece};
 
 /// 2,500 bytes: 0 to 249, ten times.
 fn counted(alloc: Global) -> Result<Vec<u8>, AllocError> {
@@ -15,6 +15,22 @@ fn counted(alloc: Global) -> Result<Vec<u8>, AllocError> {
         }
     }
     Ok(bytes)
+}
+
+// The piece has room for three bytes, and a read gives at most two.
+#[test]
+fn one_read_gives_the_beginning_of_a_piece(rt: HostRuntime) -> Result<(), Fail> {
+    let mut reader = Pieces {
+        rest: b"Alder",
+        size: 2,
+        fails: false,
+    };
+    for want in ["Al", "de", "r", "", ""] {
+        let mut piece = [0; 3];
+        let size = read_piece(&mut reader, &mut piece).ok().ok_or("no fault")?;
+        assert_same_at(&rt, &piece[..size], want.as_bytes(), want);
+    }
+    Ok(())
 }
 
 #[test]
