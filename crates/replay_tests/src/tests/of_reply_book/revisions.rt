@@ -24,7 +24,7 @@ const fn revise_to(number: u32, digest: [u8; 32], day: i32) -> Touch {
 }
 
 /// A revision to the revised table.
-const fn revise(number: u32, day: i32) -> Touch {
+pub const fn revise(number: u32, day: i32) -> Touch {
     revise_to(number, REVISED_DIGEST, day)
 }
 
