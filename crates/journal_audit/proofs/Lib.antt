@@ -4,6 +4,7 @@ pub mod AuditLemmas
 pub mod RevisionLemmas
 pub mod LawLemmas
 pub mod CalendarLemmas
+pub mod LineEndLemmas
 pub mod TellingLemmas
 pub mod HistoryLemmas
 pub mod SumLemmas

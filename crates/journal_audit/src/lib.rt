@@ -10,6 +10,7 @@ mod fault;
 mod gate_file;
 mod history;
 mod laws;
+mod line_end;
 mod names;
 mod touches;
 

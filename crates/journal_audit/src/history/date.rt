@@ -1,121 +1,92 @@
 //! Days and moments, as they are printed.
 
-ghost use Rattle.std.specs.Prelude.{◌≡◌, ◌<◌, ◌++◌, IsTrue, IsSomeAnd, IfSome, IfNone, OnOk};
+ghost use Rattle.std.specs.Prelude.{◌≡◌, ◌<◌, ◌≤◌, length};
 ghost use Rattle.std.specs.Fmt.{signed_decimal};
 ghost use Rattle.jiff_core.specs.Date.{epoch_day};
 ghost use Rattle.jiff_fmt.specs.Text.{pad2};
-ghost use Rattle.journal_audit.specs.Calendar.{day_text, clock_text, moment_text};
+ghost use Rattle.journal_audit.specs.declared.history.date.TheConstants.{DAY_LIMIT};
+ghost use Rattle.journal_audit.specs.Calendar.{day_text, clock_text};
 
-use crate::history::field::append_signed;
 use arrayvec::ArrayString;
 use jiff_core::civil::Date;
 use jiff_fmt::temporal::DateTimePrinter;
-use std::alloc::AllocError;
 
 /// The seconds of a day.
-const DAY_SECONDS: u32 = 86_400;
+pub(crate) const DAY_SECONDS: u32 = 86_400;
 
-/// The most bytes of a date.
-const DATE_SIZE: usize = 13;
+/// The most bytes of a day: a date of a year before 0 has 13.
+pub(crate) const DAY_LIMIT: usize = 13;
+/// The bytes of a second of the day.
+pub(crate) const CLOCK_SIZE: usize = 10;
+/// The most bytes of a moment.
+pub(crate) const MOMENT_LIMIT: usize = DAY_LIMIT + CLOCK_SIZE;
 
-/// Prints days, and keeps the last date that it printed: the next row of a history has it mostly,
-/// too.
+/// Prints days, and keeps the last one: the next row of a history has it mostly, too.
 #[derive(Drop)]
 pub(crate) struct DayPrinter {
-    last: Option<PrintedDay>,
-}
-
-/// A day and its date, as it is printed.
-#[derive(Drop)]
-struct PrintedDay {
     day: i32,
-    date: ArrayString<DATE_SIZE>,
-    ghost told: { date.bytes ≡ day_text day },
+    text: ArrayString<DAY_LIMIT>,
+    ghost told: { text.bytes ≡ day_text day },
 }
 
 impl DayPrinter {
-    /// One that has printed nothing yet.
+    /// One that has printed the first day of 1970.
     pub(crate) fn new() -> DayPrinter {
-        DayPrinter { last: None }
+        DayPrinter::of(0)
     }
 
-    /// Adds a moment, in seconds since 1970-01-01 00:00:00 UTC.
-    #[tactic(auto, unfolding(crate::specs::Calendar::moment_text))]
-    pub(crate) fn append_moment(
-        &mut self,
-        text: &mut Vec<u8>,
-        moment: u32,
-    ) -> Result<(), AllocError>
-        ensures { OnOk result (text.new.items ≡ text.old.items ++ moment_text moment) }
+    /// What is printed of a day, in days since 1970-01-01: its date, or its number where the
+    /// calendar has none.
+    pub(crate) fn print(&mut self, day: i32) -> &[u8]
+        ensures text { result.now ≡ day_text day }
+        ensures short { length result.now ≤ DAY_LIMIT }
     {
-        self.append_day(text, (moment / DAY_SECONDS) as i32)?;
-        text.extend_from_slice(&clock(moment % DAY_SECONDS))
-    }
-
-    /// Adds a day, in days since 1970-01-01: its date, or its number where the calendar has none.
-    pub(crate) fn append_day(&mut self, text: &mut Vec<u8>, day: i32) -> Result<(), AllocError>
-        ensures { OnOk result (text.new.items ≡ text.old.items ++ day_text day) }
-    {
-        self.turn_to(day);
-        match &self.last {
-            Some(printed) => printed.append(text),
-            None => append_signed(text, i64::from(day)),
+        if self.day != day {
+            *self = DayPrinter::of(day);
         }
+        self.text.as_str().as_bytes()
     }
 
-    /// Prints the date of a day, unless it was the last one.
-    fn turn_to(&mut self, day: i32)
-        ensures date { IfSome self.new.last (λ printed. printed.day ≡ day) }
-        ensures none { IfNone self.new.last (day_text day ≡ signed_decimal day) }
-    {
-        if !self.has_printed(day) {
-            self.last = printed_day(day);
-        }
-    }
-
-    /// Whether the last date that was printed is that of this day.
-    fn has_printed(&self, day: i32) -> bool
-        ensures { IsTrue result → IsSomeAnd self.now.last (λ printed. printed.day ≡ day) }
-    {
-        match &self.last {
-            Some(printed) => printed.day == day,
-            None => false,
-        }
-    }
-}
-
-impl PrintedDay {
-    /// The date of a day.
-    fn of(day: i32, date: Date) -> PrintedDay
-        requires { epoch_day date ≡ day }
+    /// One that has printed a day.
+    fn of(day: i32) -> DayPrinter
         ensures { result.day ≡ day }
     {
-        let date = DateTimePrinter::new().date_text(date);
-        PrintedDay { day, date }
-    }
-
-    /// Adds the date.
-    fn append(&self, text: &mut Vec<u8>) -> Result<(), AllocError>
-        ensures { OnOk result (text.new.items ≡ text.old.items ++ day_text self.now.day) }
-    {
-        text.extend_from_slice(self.date.as_str().as_bytes())
+        let text = printed(day);
+        DayPrinter { day, text }
     }
 }
 
-/// The date of a day, where the calendar has one.
+/// What is printed of a day.
 #[tactic(auto, unfolding(crate::specs::Calendar::day_text))]
-fn printed_day(day: i32) -> Option<PrintedDay>
-    ensures date { IfSome result (λ printed. printed.day ≡ day) }
-    ensures none { IfNone result (day_text day ≡ signed_decimal day) }
+fn printed(day: i32) -> ArrayString<DAY_LIMIT>
+    ensures { result.bytes ≡ day_text day }
 {
     match Date::from_unix_epoch_day(i64::from(day)) {
-        Ok(date) => Some(PrintedDay::of(day, date)),
-        Err(_) => None,
+        Ok(date) => printed_date(day, date),
+        Err(_) => printed_number(day),
     }
+}
+
+/// The date of a day.
+fn printed_date(day: i32, date: Date) -> ArrayString<DAY_LIMIT>
+    requires { epoch_day date ≡ day }
+    ensures { result.bytes ≡ day_text day }
+{
+    DateTimePrinter::new().date_text(date)
+}
+
+/// The number of a day.
+fn printed_number(day: i32) -> ArrayString<DAY_LIMIT>
+    ensures { result.bytes ≡ signed_decimal day }
+{
+    let mut text = ArrayString::new();
+    let mut digits = itoa::Buffer::new();
+    text.push_str(digits.format(day));
+    text
 }
 
 /// A second of the day.
-fn clock(second: u32) -> [u8; 10]
+pub(crate) fn clock(second: u32) -> [u8; CLOCK_SIZE]
     requires { second < 86_400 }
     ensures { result ≡ clock_text second }
 {
