@@ -2,7 +2,7 @@
 
 crates/tried.json has a row for each wrong body that was tried, with a digest of what that rests on: the toolchain's
 logic, the wrong body's change, the crate's `src/`, `specs/` and `proofs/`, and of each library of the repository below
-it what a caller sees: `specs/`, and `src/` without bodies and comments. Tests don't count.
+it what another crate sees: `specs/`, and `src/` without bodies, comments and functions of its own. Tests don't count.
 """
 import collections
 import dataclasses
@@ -18,6 +18,13 @@ import refusals
 # A signature with its clauses: from `fn` to the body, or to the semicolon of a trait's method.
 FUNCTION = re.compile(r"^(?P<indent> {0,4})(?:(?P<pub>pub )|pub\([^)]*\) )?(?:const |unsafe )*fn (?P<name>\w+)", re.M)
 COMMENT = re.compile(r"^ *(?://|--).*\n", re.M)
+# The attributes and comments right above a function.
+ABOVE = re.compile(r"(?:^ *(?:#\[.*\]|//.*)\n)+\Z", re.M)
+# What no other crate sees: how a function is compiled, and what a file imports for its bodies.
+UNSEEN = re.compile(r"^ *(?:#\[inline.*\]|(?:use|mod) [^;]*;)\n", re.M)
+FIELDS = re.compile(r"(?<=\{\n)(?: +(?:pub |pub\([^)]*\) )?\w+: .*\n| +ghost .*\n| {8}.*\n)+(?=\})", re.M)
+# What a file has that another crate may see.
+SEEN = re.compile(r"\b(?:struct|enum|trait|const|static|type|macro_rules)\b|^ *pub |^impl\b[^{]* for |^ *ghost (?!use\b)", re.M)
 TESTS = re.compile(r"\n#\[cfg\(test\)\]\nmod tests;\n")
 # What holds functions: an impl or a trait, from its first column to the brace that opens it, and to the one that ends it.
 HEAD = r"^(?:pub )?(?:unsafe )?(?P<kind>impl|trait)\b(?P<head>[^{\n]*(?:\n[^{}\n]*)*?)\{"
@@ -215,17 +222,41 @@ def below(top, name):
 
 
 def texts(folder, parts, change=str):
-    """The texts of these parts of a crate, but for tests, each behind its path."""
+    """The texts of these parts of a crate, but for tests and for those of which nothing is left, each behind its path."""
     for part in parts:
         for file in sorted((folder / part).rglob("*")):
             if file.is_file() and not file.relative_to(folder / part).parts[0].startswith("tests"):
-                yield f"{file.relative_to(folder.parent)}\n{change(TESTS.sub('', file.read_text()))}\n"
+                if text := change(TESTS.sub("", file.read_text())):
+                    yield f"{file.relative_to(folder.parent)}\n{text}\n"
+
+
+def without_own_functions(text):
+    """The text of a file of src/ without the functions that no other crate can call. Those of traits can be called."""
+    for indent in (4, 0):
+        owned = [(one.end(), one["kind"] == "impl" and not re.search(r"\bfor\b", one["head"])) for one in OWNER.finditer(text)]
+        parts, at = [], 0
+        for match, close in heads(text, indent):
+            is_own = indent == 0 or [own for end, own in owned if end <= match.start()][-1:] == [True]
+            if match["pub"] or not is_own or match.start() < at or text[close - 1] not in "{}":
+                continue
+            parts.append(ABOVE.sub("", text[at:match.start()]))
+            end = close if text[close - 1] == "}" else text.index("\n" + " " * indent + "}", close) + indent + 2
+            at = text.find("\n", end) + 1 or len(text)
+        text = "".join(parts) + text[at:]
+    return text
+
+
+def without_comments(text):
+    return COMMENT.sub("", text)
 
 
 @functools.cache
 def caller_sees(text):
-    """What a caller sees of a file of src/ or specs/: no body and no comment."""
-    return COMMENT.sub("", without_bodies(text))
+    """What another crate sees of a file of src/: no body, no comment, no function of the crate's own, not how a function
+    is compiled, and fields in no order. Nothing of a file that is the crate's own."""
+    text = UNSEEN.sub("", without_comments(without_bodies(without_own_functions(text))))
+    text = FIELDS.sub(lambda match: "".join(sorted(match[0].splitlines(True))), text)
+    return re.sub("\n{2,}", "\n", text) if SEEN.search(text) else ""
 
 
 @functools.cache
@@ -241,8 +272,9 @@ def base_of(top, name):
     for text in texts(crate, ("src", "specs", "proofs")):
         rests.update(text.encode())
     for library in libraries(top, name):
-        for text in texts(top / "crates" / library, ("src", "specs"), caller_sees):
-            rests.update(text.encode())
+        for part, change in (("src", caller_sees), ("specs", without_comments)):
+            for text in texts(top / "crates" / library, (part,), change):
+                rests.update(text.encode())
     return rests
 
 
