@@ -8,7 +8,7 @@ import subprocess
 import threading
 import time
 
-from harness import TIME, TOP
+from harness import TIME, TOP, free_port
 
 AUTHORITY, STUNNEL = TOP / "scripts" / "authority", TOP / "packaging" / "stunnel"
 
@@ -19,11 +19,6 @@ def authority(*words):
     if "Traceback" in done.stderr:
         raise AssertionError(done.stderr)
     return done.returncode, done.stdout, done.stderr
-
-
-def free_port():
-    with socket.create_server(("127.0.0.1", 0)) as free:
-        return free.getsockname()[1]
 
 
 class Relay:

@@ -511,8 +511,7 @@ class Shared(GateTest):
         self.assertEqual(server.station.history, frames)
 
     def test_what_gate_send_left_waiting_is_sent_by_the_library(self):
-        with socket.create_server(("127.0.0.1", 0)) as free:
-            nobody = f"127.0.0.1:{free.getsockname()[1]}"
+        nobody = f"127.0.0.1:{harness.free_port()}"
         words = [self.SENDER, "--gate", "7", "--file", self.file, "--new", "--capacity", "1000", "--tries", "1", nobody]
         done = subprocess.run(words, input="at 1736149800 issue 1\n", capture_output=True, text=True, timeout=TIME)
         self.assertEqual((done.returncode, done.stdout), (1, ""))

@@ -2,10 +2,13 @@
 
 A test that the machine can't run is skipped with the reason, which a line tells: it counts as neither.
 """
+import contextlib
 import hashlib
 import os
 import pathlib
+import random
 import re
+import socket
 import subprocess
 import sys
 import tempfile
@@ -24,6 +27,19 @@ REVISED = TOP / "docs" / "vectors-revised.toml"
 
 # How many seconds a run of the program may take.
 TIME = 60
+
+
+# From this port on the system hands them out by itself, also to those who connect.
+HANDED_OUT = int(pathlib.Path("/proc/sys/net/ipv4/ip_local_port_range").read_text().split()[0])
+
+
+def free_port():
+    """A port of 127.0.0.1 on which nobody listens, and which the system hands to nobody who doesn't name it: a server can
+    take it later, whatever others do meanwhile."""
+    while True:
+        port = random.randrange(10_000, max(HANDED_OUT, 20_000))
+        with contextlib.suppress(OSError), socket.create_server(("127.0.0.1", port)):
+            return port
 
 
 def kit():

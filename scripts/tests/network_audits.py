@@ -5,7 +5,6 @@ import pathlib
 import re
 import shutil
 import signal
-import socket
 import subprocess
 import time
 import unittest
@@ -224,9 +223,7 @@ exec PROGRAM "$@"
         self.assertRegex(*faults.values(), "^its task was lost: KilledWorker: ")
 
     def test_a_scheduler_that_is_not_there_is_told(self):
-        with socket.create_server(("127.0.0.1", 0)) as free:
-            port = free.getsockname()[1]
         done = call("audit", *self.copies("friday"), *TABLES, "--report", self.report, "--program", PROGRAM, "--patience", 1,
-                    "--scheduler", f"tcp://127.0.0.1:{port}")
+                    "--scheduler", f"tcp://127.0.0.1:{harness.free_port()}")
         self.assertEqual((done.returncode, done.stdout, self.report.exists()), (1, "", False))
         self.assertRegex(done.stderr, r"^audit: ")

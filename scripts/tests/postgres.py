@@ -4,10 +4,11 @@ import pathlib
 import pwd
 import shutil
 import signal
-import socket
 import subprocess
 import tempfile
 import time
+
+from harness import free_port
 
 # How many seconds it may take to begin and to end.
 PATIENCE = 60
@@ -49,8 +50,7 @@ class Cluster:
             self.before += ["setpriv", "--reuid=postgres", "--regid=postgres", "--init-groups"]
         self.run("initdb", "-D", self.folder / "data", "-A", "trust", "-U", "postgres", "-E", "UTF8", "--locale=C",
                  "--no-sync")
-        with socket.create_server(("127.0.0.1", 0)) as free:
-            self.port = free.getsockname()[1]
+        self.port = free_port()
         self.log = open(self.folder / "log", "wb")
         self.process = subprocess.Popen(
             self.words("postgres", "-D", self.folder / "data", "-p", self.port, "-c", "listen_addresses=127.0.0.1", "-c",

@@ -2,7 +2,6 @@
 answered."""
 import pathlib
 import shutil
-import socket
 import struct
 import subprocess
 import tempfile
@@ -107,8 +106,7 @@ def address_of(server):
 
 def free_address():
     """An address on which nobody listens."""
-    with socket.create_server(("127.0.0.1", 0)) as free:
-        return f"127.0.0.1:{free.getsockname()[1]}"
+    return f"127.0.0.1:{harness.free_port()}"
 
 
 def town(count):

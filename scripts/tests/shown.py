@@ -11,7 +11,7 @@ import subprocess
 import threading
 import time
 
-from harness import CRATES, PROGRAM, TIME, TOP
+from harness import CRATES, PROGRAM, TIME, TOP, free_port
 
 BLOCK = re.compile(r"^(?P<indent> *)```\n(?P<text>(?P=indent)\$ .*?)^(?P=indent)```$", re.M | re.S)
 
@@ -63,11 +63,10 @@ def plain(text):
 
 def free_ports(count):
     """So many ports that nobody listens on."""
-    holders = [socket.create_server(("127.0.0.1", 0)) for _ in range(count)]
-    found = [str(holder.getsockname()[1]) for holder in holders]
-    for holder in holders:
-        holder.close()
-    return found
+    found = set()
+    while len(found) < count:
+        found.add(str(free_port()))
+    return list(found)
 
 
 @contextlib.contextmanager
