@@ -37,7 +37,7 @@ word_free (Enter station moment) = (refl, (refl, tt))
 word_free (Leave station moment) = (refl, (refl, (refl, tt)))
 word_free (TopUp pence moment) = (refl, (refl, (refl, (refl, (refl, (refl, tt))))))
 word_free (Issue moment) = (refl, (refl, (refl, (refl, (refl, tt)))))
-word_free (Revise digest day moment) = (refl, (refl, (refl, (refl, (refl, (refl, (refl, (refl, tt))))))))
+word_free (Revise day moment digest) = (refl, (refl, (refl, (refl, (refl, (refl, (refl, (refl, tt))))))))
 
 -- no such word is `at`
 pub not_at : (act : Act) → word_of act ≡ codes "at" → ⊥
@@ -49,7 +49,7 @@ not_at (TopUp pence moment) is =
     let bad : 116 ≡ 97 = ap (λ (l : List ℕ). slice_index l 0) is in absurd (omega (arith, bad))
 not_at (Issue moment) is =
     let bad : 105 ≡ 97 = ap (λ (l : List ℕ). slice_index l 0) is in absurd (omega (arith, bad))
-not_at (Revise digest day moment) is =
+not_at (Revise day moment digest) is =
     let bad : 114 ≡ 97 = ap (λ (l : List ℕ). slice_index l 0) is in absurd (omega (arith, bad))
 
 -- a text that begins with a number is cut behind it

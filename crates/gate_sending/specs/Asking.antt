@@ -33,7 +33,7 @@ word_of (Enter station moment) = codes "in"
 word_of (Leave station moment) = codes "out"
 word_of (TopUp pence moment) = codes "top-up"
 word_of (Issue moment) = codes "issue"
-word_of (Revise digest day moment) = codes "revision"
+word_of (Revise day moment digest) = codes "revision"
 
 -- what stands behind the word: the card, and the station or the pence; none asks for a revision
 abbrev pub SaysBehind : List ℕ → ℕ → Act → Type 0
@@ -41,7 +41,7 @@ SaysBehind rest card (Enter station moment) = HasPair rest card 16 station
 SaysBehind rest card (Leave station moment) = HasPair rest card 16 station
 SaysBehind rest card (TopUp pence moment) = HasPair rest card 32 pence
 SaysBehind rest card (Issue moment) = IsNumber 32 rest card
-SaysBehind rest card (Revise digest day moment) = ⊥
+SaysBehind rest card (Revise day moment digest) = ⊥
 
 -- a text says this act of this card, at this moment: `issue 3`, `in 3 17`, `out 3 21`, `top-up 3
 -- 1000`

@@ -61,7 +61,7 @@ left-moved scheme acts (Enter s m) change is = change-moved change ∙ is
 left-moved scheme acts (Leave s m) change is = change-moved change ∙ is
 left-moved scheme acts (TopUp p m) change is = omega (arith, ints, sum_by-cons pence_paid (TopUp p m) acts)
 left-moved scheme acts (Issue m) change is = change-moved change ∙ is
-left-moved scheme acts (Revise g d m) change is = change-moved change ∙ is
+left-moved scheme acts (Revise d m g) change is = change-moved change ∙ is
 
 -- no refusal is an acceptance
 not-accepted : (cause : Refusal) (seen : ℤ) → is_accepted (refused cause seen) ≡ true → ⊥

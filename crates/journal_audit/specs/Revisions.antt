@@ -43,7 +43,7 @@ told_of place judged (Enter station moment) = []
 told_of place judged (Leave station moment) = []
 told_of place judged (TopUp pence moment) = []
 told_of place judged (Issue moment) = []
-told_of place judged (Revise digest day moment) = revision_line place day digest judged
+told_of place judged (Revise day moment digest) = revision_line place day digest judged
 
 -- what is told of touches, of which the first has this place in the journal
 unfoldable pub revisions_from : Option (List Judged) → ℕ → List Touch → List ℕ

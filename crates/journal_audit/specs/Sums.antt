@@ -27,7 +27,7 @@ pence_taken (Enter station moment) change = fall change
 pence_taken (Leave station moment) change = fall change
 pence_taken (TopUp pence moment) change = 0
 pence_taken (Issue moment) change = fall change
-pence_taken (Revise digest day moment) change = fall change
+pence_taken (Revise day moment digest) change = fall change
 
 -- what an act gives back to its card: how far its change is above 0, but nothing where money is
 -- paid in
@@ -36,7 +36,7 @@ pence_returned (Enter station moment) change = rise change
 pence_returned (Leave station moment) change = rise change
 pence_returned (TopUp pence moment) change = 0
 pence_returned (Issue moment) change = rise change
-pence_returned (Revise digest day moment) change = rise change
+pence_returned (Revise day moment digest) change = rise change
 
 -- what a touch paid in, took and gave back
 abbrev pub moved : Judged → Sums

@@ -62,7 +62,7 @@ revision_line : request_of_line (codes "0033060007" ++ codes "00000006" ++ codes
       gate = 7;
       number = 6;
       card = 0;
-      act = Revise (replicate 32 7) (pos 20_095) 1_736_150_400;
+      act = Revise (pos 20_095) 1_736_150_400 (replicate 32 7);
     }))
 unfolding on_literals
 revision_line = refl

@@ -105,7 +105,7 @@ module _ (day : ℤ) (scheme revised : Scheme) (agree : AgreeBefore day scheme r
       ∙ ap (λ taps. Out (record { station = s; stamp = scheme.stamp m }) ∷ taps) (travel-agrees acts before.1)
   travel-agrees (TopUp p m ∷ acts) before = travel-agrees acts before
   travel-agrees (Issue m ∷ acts) before = travel-agrees acts before
-  travel-agrees (Revise s d m ∷ acts) before = travel-agrees acts before
+  travel-agrees (Revise d m s ∷ acts) before = travel-agrees acts before
 
   in_time-agrees : (a b : Passage) → day_of a <ℤ day → is_in_time revised a b ≡ is_in_time scheme a b
   in_time-agrees a b before =

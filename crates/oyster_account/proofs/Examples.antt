@@ -355,9 +355,9 @@ module _ (zone : TimeZone) where
   travelled_day = (refl, refl, refl)
 
   -- so is one from the day of the revision before it
-  revised_day : (revision_reply (example_scheme zone) (judged (Revise [] (pos 20095) 0) 9 ∷ []) (pos 20095)
+  revised_day : (revision_reply (example_scheme zone) (judged (Revise (pos 20095) 0 []) 9 ∷ []) (pos 20095)
       ≡ reply 27 (pos 0) (pos 0))
-      × (revision_reply (example_scheme zone) (judged (Revise [] (pos 20095) 0) 9 ∷ []) (pos 20096)
+      × (revision_reply (example_scheme zone) (judged (Revise (pos 20095) 0 []) 9 ∷ []) (pos 20096)
       ≡ reply 9 (pos 0) (pos 0))
   unfolding weekday_number
   revised_day = (refl, refl)

@@ -79,7 +79,7 @@ unrefused_sound t issued back b (Enter s m) is = not-false (t.knows s) (unrefuse
 unrefused_sound t issued back b (Leave s m) is = not-false (t.knows s) (unrefused t issued back b (Leave s m) is).0
 unrefused_sound t issued back b (TopUp p m) is = top_up_sound p (unrefused t issued back b (TopUp p m) is).2
 unrefused_sound t issued back b (Issue m) is = tt
-unrefused_sound t issued back b (Revise s d m) is = tt
+unrefused_sound t issued back b (Revise d m s) is = tt
 
 issued-or : (issued issue : Bool) → (not issued && not issue) ≡ false → (issue || issued) ≡ true
 issued-or true true is = refl
@@ -113,7 +113,7 @@ order-kept scheme acts (Enter s m) is order = (not-backwards (travel scheme acts
 order-kept scheme acts (Leave s m) is order = (not-backwards (travel scheme acts) _ is, order)
 order-kept scheme acts (TopUp p m) is order = order
 order-kept scheme acts (Issue m) is order = order
-order-kept scheme acts (Revise s d m) is order = order
+order-kept scheme acts (Revise d m s) is order = order
 
 -- an accepted reply found no refusal
 pub accepted_unrefused : (scheme : Scheme) (acts : List Act) (act : Act) (found : Option Refusal) →

@@ -86,7 +86,7 @@ module _ (scheme : Scheme) (day : ℤ) where
   act-before (Leave s m) acts is before = (earlier-day (scheme.stamp m).day is, before)
   act-before (TopUp p m) acts is before = before
   act-before (Issue m) acts is before = before
-  act-before (Revise s d m) acts is before = before
+  act-before (Revise d m s) acts is before = before
 
   counted-before : (counts : Bool) (j : Judged) (js : List Judged) →
       (counts ≡ true → AreBefore day (travel scheme (j.touch.act ∷ map (λ (j : Judged). j.touch.act) js))) →

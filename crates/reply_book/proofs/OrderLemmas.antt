@@ -80,9 +80,9 @@ revision-ahead tables cards history judged reply is = by_act judged.touch.act re
     by_act (Leave s m) e i = absurd cc
     by_act (TopUp p m) e i = absurd cc
     by_act (Issue m) e i = absurd cc
-    by_act (Revise g d m) e i = by_day (is_day_bad (scheme_after tables history) history d) refl
+    by_act (Revise d m g) e i = by_day (is_day_bad (scheme_after tables history) history d) refl
       where
-        given : judged.reply ≡ reply_for (scheme_after tables history) cards history judged.touch (Revise g d m)
+        given : judged.reply ≡ reply_for (scheme_after tables history) cards history judged.touch (Revise d m g)
         given = reply ∙ ap (reply_for (scheme_after tables history) cards history judged.touch) e
 
         by_day : (b : Bool) → is_day_bad (scheme_after tables history) history d ≡ b → IsAhead tables history judged

@@ -86,13 +86,13 @@ revision-good tables cards history judged r reply is = by_act judged.touch.act r
     by_act (Leave s m) e true yes_it i = absurd cc
     by_act (TopUp p m) e true yes_it i = absurd cc
     by_act (Issue m) e true yes_it i = absurd cc
-    by_act (Revise g d m) e true yes_it i =
+    by_act (Revise d m g) e true yes_it i =
         let made : record { digest = g; day = d } ≡ r = cc in
         let same : d ≡ r.day = ap (λ (x : Revision). x.day) made in
         subst (λ (x : ℤ). is_day_bad (scheme_after tables history) history x ≡ false) same
         (by_day (is_day_bad (scheme_after tables history) history d) refl)
       where
-        given : judged.reply ≡ reply_for (scheme_after tables history) cards history judged.touch (Revise g d m)
+        given : judged.reply ≡ reply_for (scheme_after tables history) cards history judged.touch (Revise d m g)
         given = reply ∙ ap (reply_for (scheme_after tables history) cards history judged.touch) e
 
         by_day : (b : Bool) → is_day_bad (scheme_after tables history) history d ≡ b

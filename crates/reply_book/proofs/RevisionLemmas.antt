@@ -60,7 +60,7 @@ revision-none (Enter s m) is = refl
 revision-none (Leave s m) is = refl
 revision-none (TopUp p m) is = refl
 revision-none (Issue m) is = refl
-revision-none (Revise g d m) is = absurd cc
+revision-none (Revise d m g) is = absurd cc
 
 -- an entry that is no accepted revision has none
 pub revision_in-none : (judged : Judged)
@@ -112,7 +112,7 @@ reached-same tables a b day (Enter s m) = refl
 reached-same tables a b day (Leave s m) = refl
 reached-same tables a b day (TopUp p m) = refl
 reached-same tables a b day (Issue m) = refl
-reached-same tables a b day (Revise g d m) = refl
+reached-same tables a b day (Revise d m g) = refl
 
 pub bad-same : (tables : Tables) (a b : List Revision) (history : List Judged) (day : ℤ)
     → is_day_bad (scheme_by tables a) history day ≡ is_day_bad (scheme_by tables b) history day
@@ -130,7 +130,7 @@ reached-by scheme (Enter s m) day = refl
 reached-by scheme (Leave s m) day = refl
 reached-by scheme (TopUp p m) day = refl
 reached-by scheme (Issue m) day = refl
-reached-by scheme (Revise g d m) day = refl
+reached-by scheme (Revise d m g) day = refl
 
 or-none : (b : Bool) → (b || false) ≡ b
 or-none true = refl

@@ -14,7 +14,7 @@ day_reached (Enter station moment) day = Some day
 day_reached (Leave station moment) day = Some day
 day_reached (TopUp pence moment) day = None
 day_reached (Issue moment) day = None
-day_reached (Revise digest other moment) day = Some other
+day_reached (Revise other moment digest) day = Some other
 
 -- a day isn't above the last one that was reached
 abbrev pub is_reached : Option ℤ → ℤ → Bool

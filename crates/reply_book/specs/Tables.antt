@@ -38,7 +38,7 @@ is_act_known tables (Enter station moment) = true
 is_act_known tables (Leave station moment) = true
 is_act_known tables (TopUp pence moment) = true
 is_act_known tables (Issue moment) = true
-is_act_known tables (Revise digest day moment) = is_some (table_of (listed tables) digest)
+is_act_known tables (Revise day moment digest) = is_some (table_of (listed tables) digest)
 
 -- the touch is no revision to a table that isn't there
 abbrev pub is_known : Tables → Touch → Bool
@@ -54,7 +54,7 @@ revision_of (Enter station moment) = None
 revision_of (Leave station moment) = None
 revision_of (TopUp pence moment) = None
 revision_of (Issue moment) = None
-revision_of (Revise digest day moment) = Some (record { digest = digest; day = day })
+revision_of (Revise day moment digest) = Some (record { digest = digest; day = day })
 
 -- the revision of an entry, where it was accepted
 abbrev pub revision_in : Judged → Option Revision
