@@ -113,6 +113,7 @@ impl Account {
     }
 
     /// Adds an accepted act, and answers what it is. The stamp is that of its moment.
+    #[inline(always)]
     fn add(&mut self, schedule: &Schedule, act: &Act, stamp: &Stamp) -> Acceptance
         requires stamped { stamp.now ≡ (scheme_of schedule.now).stamp (moment_of act.now) }
         requires sound { IsSound ((scheme_of schedule.now).on stamp.now.day) act.now }

@@ -66,6 +66,7 @@ impl Passage {
 }
 
 /// The table in force on the fare day of a stamp.
+#[inline(always)]
 pub(crate) fn fares_for(schedule: &Schedule, stamp: Stamp) -> &Fares
     ensures value { result.now ≡ table_on schedule.now stamp.day }
 
