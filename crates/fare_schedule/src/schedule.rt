@@ -120,6 +120,7 @@ impl Schedule {
         ensures tables { tables_of self.new ≡ tables_of self.old }
         ensures revisions { revisions_of self.new ≡ revisions_of self.old }
         ensures room { HasRoom self.old → HasRoom self.new }
+        ensures no_more_room { HasRoom self.new → HasRoom self.old }
         ensures on { (day : ℤ) → table_on self.new day ≡ table_on self.old day }
         ensures stamp { (moment : ℕ) → stamp_by self.new moment ≡ stamp_by self.old moment }
     {

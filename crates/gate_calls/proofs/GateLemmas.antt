@@ -16,7 +16,7 @@ use Rattle.gate_client.specs.File.{header_by, last_of, next_touch}
 use Rattle.gate_client.specs.Client.{HasAsked, gate_of, room_of, waits_of}
 use Rattle.gate_client.specs.Heard.{frame_of}
 use Rattle.gate_client.proofs.NumberLemmas.{slice_get-pushed}
-use Rattle.gate_rounds.specs.Joint.{Joint, is_any, IsWaiting}
+use Rattle.gate_law.specs.Joint.{Joint, is_any, IsWaiting}
 use Rattle.gate_calls.specs.Gate.{IsGateOf}
 use Rattle.gate_calls.specs.Calls.{AreWritten, IsAsking, IsSending, IsSendingInPart, IsHearing, IsOpening}
 use Rattle.gate_calls.specs.Calls.{IsOpeningAfterAsking}

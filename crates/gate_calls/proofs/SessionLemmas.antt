@@ -16,10 +16,10 @@ use Rattle.gate_session.specs.Clerk.{IsRun as IsClerksRun}
 use Rattle.gate_session.specs.Session.{Exchange, HasEnded, IsSession, IsRefused, IsAnswerCut, IsRefusalCut, joined}
 use Rattle.gate_session.specs.Session.{refusal}
 use Rattle.text_io.specs.Writing.{IsBeginning}
-use Rattle.gate_rounds.specs.Joint.{Joint}
-use Rattle.gate_rounds.specs.Lines.{IsWritten, AreFirstOf}
-use Rattle.gate_rounds.proofs.ListLemmas.{contained, placed}
-use Rattle.gate_rounds.proofs.LineLemmas.{requests as bring_requests, by_line}
+use Rattle.gate_law.specs.Joint.{Joint}
+use Rattle.gate_law.specs.Lines.{IsWritten, AreFirstOf}
+use Rattle.gate_law.proofs.ListLemmas.{contained, placed}
+use Rattle.gate_law.proofs.LineLemmas.{requests as bring_requests, by_line}
 use Rattle.gate_calls.specs.Station.{StationState, IsStationsClerk, GivesFitting, IsStationOf}
 use Rattle.gate_calls.specs.Sessions.{WereSent, served_in, AreSessionsRuns}
 use Rattle.gate_calls.proofs.StationLemmas.{Serves, stays, then, tells, answered, unanswered}

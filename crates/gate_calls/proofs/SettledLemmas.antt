@@ -27,14 +27,14 @@ use Rattle.gate_client.specs.declared.client.Client.{Client}
 use Rattle.gate_client.specs.Client.{HasAsked, answered, gate_of, waits_of}
 use Rattle.gate_client.specs.File.{last_of}
 use Rattle.gate_client.specs.Heard.{frame_of}
-use Rattle.gate_rounds.specs.Joint.{Joint}
-use Rattle.gate_rounds.specs.Steps.{Asks, Step, is_reply}
-use Rattle.gate_rounds.specs.Agreement.{IsRun}
-use Rattle.gate_rounds.specs.Lines.{IsWritten, AreFirstOf}
-use Rattle.gate_rounds.proofs.ListLemmas.{contained, placed, contains-left, contains-last, contains-none}
-use Rattle.gate_rounds.proofs.ListLemmas.{contains-push_cases}
-use Rattle.gate_rounds.proofs.LineLemmas.{answers as bring_answers, by_line}
-use Rattle.gate_rounds.proofs.StepLemmas.{run-append}
+use Rattle.gate_law.specs.Joint.{Joint}
+use Rattle.gate_law.specs.Steps.{Asks, Step, is_reply}
+use Rattle.gate_law.specs.Agreement.{IsRun}
+use Rattle.gate_law.specs.Lines.{IsWritten, AreFirstOf}
+use Rattle.gate_law.proofs.ListLemmas.{contained, placed, contains-left, contains-last, contains-none}
+use Rattle.gate_law.proofs.ListLemmas.{contains-push_cases}
+use Rattle.gate_law.proofs.LineLemmas.{answers as bring_answers, by_line}
+use Rattle.gate_law.proofs.StepLemmas.{run-append}
 use Rattle.gate_calls.specs.Gate.{IsGateOf, asked_in, sent_in, heard_in}
 use Rattle.gate_calls.specs.Calls.{HasHeard}
 use Rattle.gate_calls.specs.Station.{StationState, DoesAnswer, IsStationsClerk, GivesFitting, KeepsStation, IsStationOf}

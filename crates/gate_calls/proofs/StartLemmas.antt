@@ -5,7 +5,7 @@ use Rattle.reply_book.specs.Legal.{touches_of}
 use Rattle.tap_disk.specs.declared.disk.Disk.{Ghosts}
 use Rattle.gate_session.specs.declared.answer.Answer.TheVariants as answers
 use Rattle.gate_client.specs.declared.client.Client.{Client}
-use Rattle.gate_rounds.proofs.ListLemmas.{contains-none}
+use Rattle.gate_law.proofs.ListLemmas.{contains-none}
 use Rattle.gate_calls.specs.Station.{StationState}
 use Rattle.gate_calls.specs.Settled.{HasLegal, DoesStart}
 

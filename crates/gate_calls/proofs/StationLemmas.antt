@@ -17,11 +17,11 @@ use Rattle.gate_session.specs.declared.request.Request.{Request}
 use Rattle.gate_session.specs.declared.request.Request.TheVariants as requests
 use Rattle.gate_session.specs.declared.answer.Answer.{Answer}
 use Rattle.gate_session.specs.declared.answer.Answer.TheVariants as answers
-use Rattle.gate_rounds.specs.Joint.{Joint}
-use Rattle.gate_rounds.specs.Premises.{Line}
-use Rattle.gate_rounds.specs.Steps.{Step}
-use Rattle.gate_rounds.specs.Agreement.{IsRun}
-use Rattle.gate_rounds.proofs.StepLemmas.{run-append}
+use Rattle.gate_law.specs.Joint.{Joint}
+use Rattle.gate_law.specs.Premises.{Line}
+use Rattle.gate_law.specs.Steps.{Step}
+use Rattle.gate_law.specs.Agreement.{IsRun}
+use Rattle.gate_law.proofs.StepLemmas.{run-append}
 use Rattle.gate_calls.specs.Station.{StationState, IsEntered, IsNoReply, DoesAnswer, IsStationOf}
 use Rattle.gate_calls.specs.Sessions.{served_in}
 

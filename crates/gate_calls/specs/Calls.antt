@@ -1,4 +1,4 @@
--- Which step of gate_rounds each call of gate_client is, by what its clauses say of the client
+-- Which step of gate_law each call of gate_client is, by what its clauses say of the client
 -- before and after (docs/PROOFS.md, "A gate and its station").
 use Rattle.std.specs.Prelude.{◌≡◌, ◌⊎◌, ℕ, List, [], ◌∷◌, ◌++◌, map, Some, None}
 use Rattle.oyster_account.specs.declared.touch.Act.{Act}
@@ -16,10 +16,10 @@ use Rattle.gate_client.specs.File.{header_by, next_touch}
 use Rattle.gate_client.specs.Client.{HasAsked, IsOpened, answered, gate_of, waits_of, disk_of}
 use Rattle.gate_client.specs.Client.{header_in}
 use Rattle.gate_client.specs.Heard.{frame_of}
-use Rattle.gate_rounds.specs.Joint.{Joint}
-use Rattle.gate_rounds.specs.Premises.{Line}
-use Rattle.gate_rounds.specs.Steps.{Asks, Sends, Hears, Opens}
-use Rattle.gate_rounds.specs.Lines.{IsWritten}
+use Rattle.gate_law.specs.Joint.{Joint}
+use Rattle.gate_law.specs.Premises.{Line}
+use Rattle.gate_law.specs.Steps.{Asks, Sends, Hears, Opens}
+use Rattle.gate_law.specs.Lines.{IsWritten}
 use Rattle.gate_calls.specs.Gate.{IsGateOf, LeadsTo, asked_in, sent_in, heard_in, opened_in}
 
 -- the text is whole frames of these touches, and then nothing, or a part of one more

@@ -6,7 +6,7 @@ use Rattle.oyster_account.specs.declared.reply.Reply.{Reply}
 use Rattle.tap_disk.specs.declared.disk.Disk.{Ghosts}
 use Rattle.gate_client.specs.declared.client.Client.{Client}
 use Rattle.gate_client.specs.Client.{HasAsked, gate_of, waits_of}
-use Rattle.gate_rounds.specs.Joint.{Joint, is_any}
+use Rattle.gate_law.specs.Joint.{Joint, is_any}
 
 -- the state's touches are those that the client of this gate has kept, and one waits in the state
 -- where one waits in the client

@@ -4,3 +4,5 @@ pub mod Station
 pub mod BookClerk
 pub mod Sessions
 pub mod Settled
+pub mod Shown
+pub mod ClientRuns

@@ -1,4 +1,4 @@
--- A whole session of gate_session as a run of steps of gate_rounds (docs/PROOFS.md, "A gate and its
+-- A whole session of gate_session as a run of steps of gate_law (docs/PROOFS.md, "A gate and its
 -- station").
 use Rattle.std.specs.Prelude.{ℕ, List, ◌++◌, Contains}
 use Rattle.oyster_account.specs.declared.touch.Touch.{Touch}
@@ -10,10 +10,10 @@ use Rattle.gate_session.specs.Frames.{RequestFits, request_frame}
 use Rattle.gate_session.specs.Answers.{AnswerFits, answer_frame}
 use Rattle.gate_session.specs.Session.{IsSession}
 use Rattle.text_io.specs.Writing.{IsBeginning}
-use Rattle.gate_rounds.specs.Joint.{Joint}
-use Rattle.gate_rounds.specs.Premises.{Line}
-use Rattle.gate_rounds.specs.Agreement.{IsRun}
-use Rattle.gate_rounds.specs.Lines.{IsWritten, AreFirstOf}
+use Rattle.gate_law.specs.Joint.{Joint}
+use Rattle.gate_law.specs.Premises.{Line}
+use Rattle.gate_law.specs.Agreement.{IsRun}
+use Rattle.gate_law.specs.Lines.{IsWritten, AreFirstOf}
 use Rattle.gate_calls.specs.Station.{StationState, IsStationsClerk, GivesFitting, IsStationOf}
 
 -- each touch among these requests was sent

@@ -16,8 +16,8 @@ use Rattle.text_io.specs.Writing.{IsBeginning}
 use Rattle.gate_client.specs.declared.client.Client.{Client}
 use Rattle.gate_client.specs.File.{last_of}
 use Rattle.gate_client.specs.Client.{HasAsked, gate_of, waits_of}
-use Rattle.gate_rounds.specs.Joint.{Joint}
-use Rattle.gate_rounds.specs.Agreement.{IsRun, IsStart}
+use Rattle.gate_law.specs.Joint.{Joint}
+use Rattle.gate_law.specs.Agreement.{IsRun, IsStart}
 use Rattle.gate_calls.specs.Gate.{IsGateOf}
 use Rattle.gate_calls.specs.Station.{StationState, IsStationOf}
 
@@ -70,7 +70,7 @@ first_of station = record {
 }
 
 -- a client that has kept no touch, and this station, which has no entry, are where the law of
--- gate_rounds begins, and show that state
+-- gate_law begins, and show that state
 abbrev pub DoesStart : {D : Type 0} {g : Ghosts D} → Client D g → StationState → Type 0
 DoesStart client station = (gate : ℕ) → gate_of client ≡ gate → HasAsked [] client
     → waits_of client ≡ None → station.history ≡ []

@@ -1,4 +1,4 @@
--- What a station does of a request, as the steps of gate_rounds have it (docs/PROTOCOL.md,
+-- What a station does of a request, as the steps of gate_law have it (docs/PROTOCOL.md,
 -- "Requests and their answers").
 use Rattle.std.specs.Prelude.{◌≡◌, ◌⊎◌, ℕ, false, List, [], ◌∷◌, ◌++◌}
 use Rattle.oyster_account.specs.declared.touch.Touch.{Touch}
@@ -16,9 +16,9 @@ use Rattle.gate_session.specs.declared.answer.Answer.{Answer}
 use Rattle.gate_session.specs.declared.answer.Answer.TheVariants as answers
 use Rattle.gate_session.specs.Frames.{RequestFits}
 use Rattle.gate_session.specs.Answers.{AnswerFits}
-use Rattle.gate_rounds.specs.Joint.{Joint}
-use Rattle.gate_rounds.specs.Premises.{TheLock}
-use Rattle.gate_rounds.specs.Steps.{is_reply}
+use Rattle.gate_law.specs.Joint.{Joint}
+use Rattle.gate_law.specs.Premises.{TheLock}
+use Rattle.gate_law.specs.Steps.{is_reply}
 
 -- a station: its fare tables, how many cards it has, and its history
 pub record StationState : Type 0 where

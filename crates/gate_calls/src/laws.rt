@@ -1,10 +1,16 @@
 //! Laws of the calls of a gate and of a session, each the contract of a call that does nothing:
-//! which steps of `gate_rounds` they are.
+//! which steps of `gate_law` they are.
 ghost use Rattle.gate_calls.specs.Calls.{IsAsking, IsSending, IsSendingInPart, IsHearing};
 ghost use Rattle.gate_calls.specs.Calls.{IsOpening, IsOpeningAfterAsking};
 ghost use Rattle.gate_calls.specs.Station.{KeepsStation, station_of};
 ghost use Rattle.gate_calls.specs.Sessions.{AreSessionsRuns};
 ghost use Rattle.gate_calls.specs.Settled.{HasLegal, DoesStart};
+ghost use Rattle.std.specs.Prelude.{◌≡◌, ℕ, List, [], false, None};
+ghost use Rattle.oyster_account.specs.declared.touch.Touch.{Touch};
+ghost use Rattle.gate_client.specs.Client.{HasAsked, gate_of, waits_of, is_stopped};
+ghost use Rattle.gate_law.specs.Whole.{Gate, Whole};
+ghost use Rattle.gate_calls.specs.Shown.{IsShownBy, blank};
+ghost use Rattle.gate_calls.specs.ClientRuns.{gone_in};
 
 use crate::book_clerk::BookClerk;
 use gate_client::Client;
@@ -52,9 +58,24 @@ pub fn books_keep_stations(clerk: &BookClerk)
 }
 
 /// A client that has kept no touch and the clerk of a book with no entry are where the law of
-/// `gate_rounds` begins: so gate and station agree after any number of runs from there.
+/// `gate_law` begins: so gate and station agree after any number of runs from there.
 pub fn new_ones_start<D: Disk>(client: &Client<D>, clerk: &BookClerk)
     ensures { DoesStart client.now (station_of clerk.now) }
 {
     clerk.learn();
 }
+
+/// A client that was just made, as `Client::create` leaves it, shows a gate that was asked nothing.
+pub fn new_clients_are_blank<D: Disk>(client: &Client<D>)
+    ensures { (number : ℕ) → HasAsked [] client.now → waits_of client.now ≡ None
+        → is_stopped client.now ≡ false → gate_of client.now ≡ number
+        → IsShownBy number blank client.now }
+{}
+
+/// What one gate does leaves what the client of another shows: so the runs of gates follow one
+/// another in any order.
+pub fn a_gate_leaves_the_others<D: Disk>(client: &Client<D>)
+    ensures { (number other : ℕ) (whole : Whole) (gate : Gate) (more : List Touch)
+        → (other ≡ number → ⊥) → IsShownBy other (whole.gates other) client.now
+        → IsShownBy other ((gone_in number whole gate more).gates other) client.now }
+{}

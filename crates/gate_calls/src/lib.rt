@@ -1,15 +1,18 @@
-//! What a gate's client and a station do to one another, call by call, as steps of the law over
-//! both (`gate_rounds`). Its main promise is that of `settle`: where it hands out a reply, the
-//! touch stands once in the station's history, with that reply, and in the gate's file.
+//! Which steps of the law over a station and its gates (`gate_law`) the calls of a gate's client
+//! and the sessions of a station are. Its main promises are those of `ask_in_steps` and
+//! `open_in_steps`, and that of `settle`: where it returns a reply, the touch stands once in the
+//! station's history, with that reply, and in the gate's file.
 #![tactic(auto)]
 
 mod book_clerk;
+mod client_steps;
 mod laws;
 mod round;
 
 pub use book_clerk::BookClerk;
+pub use client_steps::{ask_in_steps, crash_in_steps, hear_in_steps, open_in_steps, send_in_steps};
 pub use laws::{
-    asking_is_a_step, books_keep_stations, hearing_is_a_step, new_ones_start, opening_is_a_step,
-    sending_is_a_step, sessions_are_runs,
+    a_gate_leaves_the_others, asking_is_a_step, books_keep_stations, hearing_is_a_step,
+    new_clients_are_blank, new_ones_start, opening_is_a_step, sending_is_a_step, sessions_are_runs,
 };
 pub use round::{Carried, SettleFault, TouchFault, ask_and_settle, settle};

@@ -10,7 +10,7 @@ ghost use Rattle.text_io.specs.Writing.{IsBeginning};
 ghost use Rattle.gate_client.specs.Heard.{frame_of};
 ghost use Rattle.gate_client.specs.File.{next_touch};
 ghost use Rattle.gate_client.specs.Client.{HasAsked, answered, gate_of, waits_of};
-ghost use Rattle.gate_rounds.specs.Joint.{Joint};
+ghost use Rattle.gate_law.specs.Joint.{Joint};
 ghost use Rattle.gate_calls.specs.Settled.{IsServed, IsSettled, IsShown, IsRound, HasLegal};
 ghost use Rattle.gate_calls.specs.Station.{StationState, KeepsStation};
 

@@ -1,0 +1,21 @@
+pub mod ListLemmas
+pub mod StepLemmas
+pub mod AgreementLemmas
+pub mod LineLemmas
+mod RunExamples
+mod Examples
+mod LineExamples
+mod WeakerLemmas
+mod OtherLemmas
+mod PremiseLemmas
+mod TablesLemmas
+pub mod ViewLemmas
+pub mod OpeningLemmas
+pub mod StandsLemmas
+pub mod LeadsLemmas
+pub mod WholeLemmas
+pub mod MachineLemmas
+mod WholeExamples
+mod WholeCrashExamples
+mod WholeWeakerLemmas
+mod WholeFaultLemmas

@@ -1,0 +1,11 @@
+pub mod Joint
+pub mod Premises
+pub mod Steps
+pub mod Agreement
+pub mod Weaker
+pub mod Lines
+pub mod Whole
+pub mod WholeSteps
+pub mod WholeAgreement
+pub mod WholeWeaker
+pub mod Machine

@@ -1,0 +1,4 @@
+pub mod OpeningLemmas
+pub mod CommitLemmas
+pub mod SettleLemmas
+pub mod ReachedLemmas
