@@ -4,8 +4,10 @@ use Rattle.std.specs.Prelude.{◌≡◌, ℕ, Bool, false, List, Option, Some, N
 use Rattle.oyster_account.specs.declared.touch.Touch.{Touch}
 use Rattle.oyster_account.specs.declared.reply.Judged.{Judged}
 use Rattle.oyster_account.specs.declared.reply.Reply.{Reply}
+use Rattle.oyster_account.specs.declared.reply.CardView.{CardView}
 use Rattle.reply_book.specs.Tables.{Tables, is_known, AreKnown}
 use Rattle.reply_book.specs.Legal.{IsLegal, touches_in, judge_after}
+use Rattle.reply_book.specs.View.{view_after}
 use Rattle.tap_office.specs.Name.{Opened}
 
 -- the opening was given these fare tables, for its number of cards
@@ -34,3 +36,10 @@ pub record IsReplyFor (opened : Opened) (history : List Judged) (touch : Touch) 
   pub tables : Tables
   pub given : IsGiven opened tables
   pub is : reply ≡ judge_after tables opened.header.cards history touch
+
+-- the view is what is seen of the card after the history, by the opening's tables
+pub record IsViewFor (opened : Opened) (history : List Judged) (card : ℕ) (view : CardView)
+    : Type 0 where
+  pub tables : Tables
+  pub given : IsGiven opened tables
+  pub is : view ≡ view_after tables opened.header.cards history card

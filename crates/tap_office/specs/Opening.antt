@@ -1,7 +1,7 @@
 -- What contracts see of an opening, and of the seats that it makes (docs/OFFICE.md, "An opening";
 -- this project's choice).
 use Rattle.std.specs.Prelude.{◌≡◌, ◌⊎◌, ℕ, ◌+◌, ◌≤◌, ◌<◌, List, [], length, false, Some}
-use Rattle.std.specs.Prelude.{Result, Ok, Err, slice_index_or}
+use Rattle.std.specs.Prelude.{Result, Ok, Err, Option, slice_index_or}
 use Rattle.std.specs.List.{All}
 use Rattle.logbook.specs.Pages.{Book as Logbook}
 use Rattle.fare_table.specs.Fares.{digest_of}
@@ -36,13 +36,13 @@ abbrev pub header_by : ℕ → ℕ → Tables → Header
 header_by capacity cards tables = header_of capacity cards (digest_of tables.first)
 
 -- an opening: the fare tables, the journal's header, the history that was found, how many open
--- slots stood behind the journal's end, how many seats are to be made, the two ledgers, the logbook
--- of the history, and the disk
+-- slots stood behind the journal's end where they were counted, how many seats are to be made, the
+-- two ledgers, the logbook of the history, and the disk
 pub record OpeningState (D : Type 0) : Type 0 where
   pub tables : Tables
   pub header : Header
   pub recovered : List Entry
-  pub behind : ℕ
+  pub behind : Option ℕ
   pub seats : ℕ
   pub receipts : ℕ
   pub numbers : ℕ

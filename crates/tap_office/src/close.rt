@@ -42,11 +42,9 @@ pub struct CloseFault<D> {
 impl<N: Named, D: Disk> Keeper<N, D> {
     /// Closes the book against all seats' receipts. No memory is taken, and no disk call is made.
     /// It ends what is published, and waits for desks that read.
-    pub(crate) fn close<R: Wait>(
-        self,
-        rt: &R,
-        seats: Vec<Seat<N>>,
-    ) -> Result<Closed<D>, CloseFault<D>>
+    ///
+    /// `SeatMissing` and `Mismatch` come as `Office::close` says, with the book and the disk.
+    pub fn close<R: Wait>(self, rt: &R, seats: Vec<Seat<N>>) -> Result<Closed<D>, CloseFault<D>>
         ensures settles { IfOk result (λ r. Settles N.opened.recovered N.opened.seats seats.items
             (entries_of r.book)) }
         ensures rest { MatchResult result

@@ -1,14 +1,15 @@
-//! Laws of the office, each the contract of a call that does nothing.
-ghost use Rattle.std.specs.Prelude.{◌≡◌, ℕ, ◌<◌, List, length, take, Some, slice_get};
+//! Laws of the office, each the contract of a call that changes nothing.
+ghost use Rattle.std.specs.Prelude.{◌≡◌, ℕ, ◌+◌, ◌<◌, List, length, take, Some, slice_get};
 ghost use Rattle.tap_journal.specs.Layout.{Header};
 ghost use Rattle.reply_book.specs.Legal.{history_of};
-ghost use Rattle.tap_office.specs.Given.{IsLegalFor};
+ghost use Rattle.tap_office.specs.Given.{IsLegalFor, IsViewFor};
 ghost use Rattle.tap_office.specs.Keeper.{IsHaltedByDisk, IsLeft};
 ghost use Rattle.tap_office.specs.Rounds.{Round, AreRounds, IsKeptIn};
 ghost use Rattle.tap_office.specs.Files.{DoFilesDecide, DoSameFilesKeepReplies};
 
 use crate::keeper::Keeper;
 use crate::name::Named;
+use oyster_account::CardView;
 use tap_disk::Disk;
 
 /// Over any list of rounds, each of them an opening, commits and a crash: what a round finds has
@@ -33,16 +34,25 @@ pub fn same_files_keep_replies()
 {}
 
 /// What holds whenever the lock is free: the history is legal by the opening's tables, begins with
-/// what was found at the opening, and is what is published; and the disk has its touches, with one
-/// more or without where the keeper is halted, which it is only where a call of the disk has
-/// failed.
+/// what was found at the opening, and is what is published; the ledger has counted what came since;
+/// and the disk has the history's touches, with one new one more or without where the keeper is
+/// halted, which it is only where a call of the disk has failed. What is seen of each card is said
+/// by [`the_lock_keeps_views`].
 pub fn the_lock_keeps<N: Named, D: Disk>(keeper: &Keeper<N, D>)
     ensures legal { IsLegalFor N.opened (history_of keeper.now.history) }
     ensures begins { take (length N.opened.recovered) keeper.now.history ≡ N.opened.recovered }
     ensures published { keeper.now.published ≡ keeper.now.history }
+    ensures grown { length keeper.now.history ≡ length N.opened.recovered + keeper.now.total }
     ensures left { IsLeft D.honest D.content D.outcome N.opened.header keeper.now.history
         keeper.now.halted keeper.now.disk }
     ensures failed { IsHaltedByDisk keeper.now.halted (D.failed_calls keeper.now.disk) }
 {
     let _book = &keeper.book;
+}
+
+/// And what is seen of each card then: what its touches made of it, by the opening's tables.
+pub fn the_lock_keeps_views<N: Named, D: Disk>(keeper: &Keeper<N, D>, card: u32) -> CardView
+    ensures { IsViewFor N.opened (history_of keeper.now.history) card result }
+{
+    keeper.book.view(card)
 }

@@ -7,12 +7,14 @@ ghost use Rattle.tap_office.specs.Receipt.{IsPoint, Files};
 ghost use Rattle.tap_office.specs.Keeper.{IsHaltedByDisk};
 ghost use Rattle.tap_office.specs.Close.{AreAtPlaces, Settles, IsEnd};
 
+use crate::board::Board;
 use crate::close::{CloseFault, Closed};
 use crate::fault::{CloseCause, SubmitFault};
 use crate::keeper::Keeper;
 use crate::name::Named;
 use crate::receipt::Receipt;
 use crate::seat::Seat;
+use crate::sync_times;
 use oyster_account::Touch;
 use std::marker::PhantomData;
 use std::sync::{Mutex, Wait};
@@ -29,6 +31,8 @@ pub(crate) struct Recovered<N: Named> {
 /// An office: any number of seats, on any threads, commit touches to one book.
 pub struct Office<N: Named, D: Disk> {
     keeper: Mutex<Keeper<N, D>>,
+    /// Who waits for the keeper.
+    board: Board,
     recovered: Recovered<N>,
 }
 
@@ -37,6 +41,7 @@ impl<N: Named, D: Disk> Drop for Office<N, D> {
     fn drop(self) {
         let Office {
             keeper: _,
+            board: _,
             recovered: _,
         } = self;
     }
@@ -44,11 +49,12 @@ impl<N: Named, D: Disk> Drop for Office<N, D> {
 
 impl<N: Named, D: Disk> Office<N, D> {
     /// A keeper behind a lock.
-    pub(crate) fn new(keeper: Keeper<N, D>, count: u32) -> Office<N, D>
+    pub(crate) fn new(keeper: Keeper<N, D>, board: Board, count: u32) -> Office<N, D>
         requires { count ≡ length N.opened.recovered }
     {
         Office {
             keeper: Mutex::new(keeper),
+            board,
             recovered: Recovered {
                 count,
                 of: PhantomData,
@@ -63,8 +69,10 @@ impl<N: Named, D: Disk> Office<N, D> {
         self.recovered.count
     }
 
-    /// Takes the lock, and commits a touch as `Keeper::commit` does. The seat makes room for its
-    /// receipt before, so that the lock isn't held meanwhile.
+    /// Takes the lock, and commits a touch as `Keeper::commit` does. While commits wait for the
+    /// disk, it waits for its turn before: turns come in the order in which they were asked for,
+    /// and the touch of who has the next one is written ahead into the journal. The seat makes room
+    /// for its receipt first, so that nobody waits for that.
     ///
     /// The receipt's touch is the one that was handed in, and its reply stands beside that touch at
     /// its place in a legal history that begins with the recovered one. A fault leaves the seat.
@@ -79,7 +87,17 @@ impl<N: Named, D: Disk> Office<N, D> {
         ensures kept { OnErr result (seat.new ≡ seat.old) }
     {
         seat.make_room();
-        self.keeper.lock(rt).commit(rt, seat, touch)
+        let turn = self.board.wait(rt, &touch);
+        let behind = self.board.behind(rt, turn);
+        let mut keeper = self.keeper.lock(rt);
+        let begun = sync_times::now();
+        let answer = keeper.commit_ahead(rt, seat, touch, move || behind.touch());
+        if is_fresh(&answer) {
+            self.board.times.note(begun);
+        }
+        drop(keeper);
+        self.board.pass(rt, turn);
+        answer
     }
 
     /// Closes the office against its seats' receipts: the history is what was found at the opening
@@ -111,8 +129,17 @@ impl<N: Named, D: Disk> Office<N, D> {
     {
         let Office {
             keeper,
+            board: _,
             recovered: _,
         } = self;
         keeper.into_inner().close(rt, seats)
+    }
+}
+
+/// Whether a touch was committed that is new: the disk was called for it.
+fn is_fresh<N: Named>(answer: &Result<Receipt<N>, SubmitFault>) -> bool {
+    match answer {
+        Ok(receipt) => receipt.fresh,
+        Err(_) => false,
     }
 }

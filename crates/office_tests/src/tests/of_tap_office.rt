@@ -10,6 +10,7 @@ mod revisions;
 mod rounds;
 mod steps;
 mod threads;
+mod turns;
 
 ghost use Rattle.std.specs.Prelude.{◌≡◌, [], IfSome};
 ghost use Rattle.fare_schedule.specs.Schedule.{revisions_of};

@@ -3,7 +3,7 @@ use super::steps::{outcome_of, work, worked};
 use super::*;
 use std::sync::Wait;
 use tap_disk::Disk;
-use tap_journal::JournalFault;
+use tap_journal::{Journal, JournalFault};
 
 /// Why a disk isn't opened, which is handed back.
 fn refused(
@@ -42,9 +42,32 @@ fn a_touch_that_was_journalled_twice_is_damage(rt: HostRuntime) {
     }
 }
 
-/// A disk that fails isn't opened; handed back and mended it is, with its two touches.
-fn assert_opened_again<R: Wait + Abort>(rt: &R, alloc: Global, disk: MemoryDisk) {
-    let fault = refused(rt, alloc, disk, CARDS, 2);
+/// How many touches a journal on this disk has.
+fn count_on(rt: &impl Abort, alloc: Global, disk: MemoryDisk) -> usize {
+    let digest = table(alloc).expect(rt, "the table wasn't read").digest();
+    let (_, touches) = Journal::open(alloc, disk, CARDS, &digest)
+        .ok()
+        .expect(rt, "the journal wasn't opened");
+    touches.len()
+}
+
+/// The journal alone knows nothing of gates and numbers.
+#[test]
+fn a_touch_that_was_appended_twice_is_damage_and_the_disk_is_handed_back(rt: HostRuntime) {
+    let alloc = rt.alloc();
+    let disk = disk_of(&rt, alloc, 5, &[ISSUE, ISSUE]);
+    assert_same(
+        &rt,
+        count_on(&rt, alloc, crashed(&rt, &disk, Choice::Old)),
+        2,
+    );
+    let fault = refused(&rt, alloc, disk, CARDS, 1);
+    assert_same(&rt, fault.cause, JournalFault::Damaged(1));
+    assert_same(&rt, count_on(&rt, alloc, fault.disk), 2);
+}
+
+/// A disk that failed, handed back and mended, is opened with its two touches.
+fn assert_opened_again<R: Wait + Abort>(rt: &R, alloc: Global, fault: OpenFault<MemoryDisk>) {
     assert_same(rt, fault.cause, JournalFault::Device);
     let mut disk = fault.disk;
     disk.fail_at(0);
@@ -53,6 +76,8 @@ fn assert_opened_again<R: Wait + Abort>(rt: &R, alloc: Global, disk: MemoryDisk)
     assert_same(rt, outcome, worked(2, 2000, 2));
 }
 
+/// The last call reads on behind the journal's end, to count open slots. Where that one alone
+/// fails, the disk is opened and they are not counted.
 #[test]
 fn an_opening_that_failed_can_be_made_again(rt: HostRuntime) {
     let alloc = rt.alloc();
@@ -62,7 +87,10 @@ fn an_opening_that_failed_can_be_made_again(rt: HostRuntime) {
     for stop in 0..calls {
         let mut disk = crashed(&rt, &base, Choice::New);
         disk.stop_after(stop);
-        assert_opened_again(&rt, alloc, disk);
+        match read(&rt, alloc, disk, CARDS, 2) {
+            Err(fault) => assert_opened_again(&rt, alloc, fault),
+            Ok(opening) => assert_same(&rt, (stop + 1, opening.behind()), (calls, None)),
+        }
     }
 }
 

@@ -1,4 +1,4 @@
-use Rattle.std.proofs.Common.{◌≡◌, subst}
+use Rattle.std.proofs.Common.{◌≡◌, ◌+◌, length, subst}
 use Rattle.reply_book.specs.Legal.{history_of}
 use Rattle.tap_office.specs.Given.{IsLegalFor}
 use Rattle.tap_office.specs.Keeper.{KeeperState, IsHaltedByDisk, IsLeft}
@@ -29,3 +29,8 @@ pub returns-clause-failed : goal.returns-clause-failed
 returns-clause-failed g c =
     subst (λ (k : KeeperState g.row.D.Denot). IsHaltedByDisk k.halted (g.D.Disk.failed_calls k.disk)) c.keeper.view_is
     c.keeper.invariant.0.failed
+
+pub returns-clause-grown : goal.returns-clause-grown
+returns-clause-grown g c =
+    subst (λ (k : KeeperState g.row.D.Denot). length k.history ≡ length g.N.Named.opened.recovered + k.total)
+    c.keeper.view_is c.keeper.invariant.2.grown
