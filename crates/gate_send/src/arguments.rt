@@ -26,16 +26,17 @@ const EXAMPLE: &str = "Each line of standard input asks for a touch: issue CARD,
 out CARD STATION or top-up CARD PENCE, and in front of it at SECONDS, where its moment isn't the
 clock's. Each reply is a line of standard output: gate, number, card, act, station, pence, verdict,
 change and balance. A run begins with the last touch of the file, whose reply is the first line.
+A line that asks for no touch is reported on standard error, and the next one is read.
 
-Example, the first run of gate 7, which makes its file, and a card that is issued and topped up:
+Example, gate 7 makes its file if there is none, and a card is issued and topped up:
   printf 'issue 3\\ntop-up 3 1000\\n' |
     gate_send --gate 7 --file gate7.touches --new 192.168.1.10:7040
 
 Example, what waits from before, by two stations of one journal:
   gate_send --gate 7 --file gate7.touches --resend 192.168.1.10:7040 192.168.1.11:7040
 
-Statuses: 0 all is answered, 1 a fault (standard error has its line; a touch that was kept waits in
-the file), 2 a wrong command line";
+Statuses: 0 each line is answered, 1 a fault or a line that asks for no touch (reported on standard
+error; a touch that was kept waits in the file), 2 a wrong command line";
 
 /// What is said of the option `timeout`.
 const TIMEOUT_HELP: &str = "How long a connection or an answer is waited for, from 1 to 3600000;
@@ -209,7 +210,7 @@ fn with_file<'a>(alloc: Global, command: Command<'a>) -> Result<Command<'a>, All
             .help("The gate's file, which no other gate and no server has"),
     )?;
     let command = command.arg(flag(alloc, "new").help(
-        "Makes the file; without it a file that isn't there is a fault",
+        "Makes a file that is missing; without --new that is a fault",
     ))?;
     command.arg(
         number(alloc, "capacity", 1, CAPACITY_LIMIT)

@@ -1,4 +1,5 @@
-//! Why a run ended before all was answered, and what is told of it on standard error.
+//! Why a run ended before all was answered, or a line wasn't, and what is told of it on standard
+//! error.
 
 ghost use Rattle.std.specs.Prelude.{◌≡◌};
 ghost use Rattle.gate_send.specs.declared.fault.SendFault.TheVariants.{Memory};
@@ -72,6 +73,20 @@ impl SendFault {
             _ => None,
         }
     }
+
+    /// Tells standard error what the fault is. The error is that of the writing.
+    pub(crate) fn tell<R: Eprint>(&self, rt: &R) -> io::Result<()> {
+        rt.eprintln(self)?;
+        if let Some(detail) = self.detail() {
+            rt.eprintln(detail)?;
+        }
+        Ok(())
+    }
+
+    /// Whether a line of the input asks for no touch: the next one may be read.
+    pub(crate) fn is_bad_line(&self) -> bool {
+        matches!(self, SendFault::BadLine(..))
+    }
 }
 
 /// Tells standard error why a run ended, and answers the status: that of `clap` for a command line,
@@ -83,10 +98,7 @@ pub(crate) fn tell_fault<R: Print + Eprint>(rt: &R, fault: SendFault) -> io::Res
             Ok(ExitCode::from(error.exit_code() as u8))
         }
         fault => {
-            rt.eprintln(&fault)?;
-            if let Some(detail) = fault.detail() {
-                rt.eprintln(detail)?;
-            }
+            fault.tell(rt)?;
             Ok(ExitCode::from(1))
         }
     }

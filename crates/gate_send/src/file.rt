@@ -7,31 +7,95 @@ use std::alloc::Global;
 use std::fs::{self, File, OpenOptions, TryLockError};
 use std::io;
 use std::rt::Files;
-use tap_disk::FileDisk;
+use tap_disk::{Disk, FileDisk};
+use tap_journal::{HEADER_SIZE, MARK_CLOSED, NAME};
 
-/// The client of the gate's file. A file on which a making failed is removed, if it can be, while
-/// its lock is held: but one that held something stays.
+/// What a making writes that is cut off before its end: the header, and a mark behind it.
+const UNFINISHED: u64 = HEADER_SIZE as u64 + 1;
+
+/// The client of the gate's file. With `--new` a file that isn't there, or is empty, is made; a
+/// whole one is opened, so that a service has the same arguments at each start; and one whose
+/// making was cut off is made anew.
 pub(crate) fn gate_file<R: AllocGlobal + Files<File = File>>(
     rt: &R,
     asked: &Arguments<'_>,
 ) -> Result<Client<FileDisk>, SendFault> {
     let disk = disk_at(rt, asked)?;
-    let opened = if asked.is_new {
-        Client::create(disk, asked.gate, asked.capacity)
-    } else {
-        Client::open(rt.alloc(), disk, asked.gate)
-    };
-    match opened {
+    if !asked.is_new {
+        return match Client::open(rt.alloc(), disk, asked.gate) {
+            Ok(client) => Ok(client),
+            Err(fault) => Err(file_fault(rt, asked, fault.cause)),
+        };
+    }
+    match Client::create(disk, asked.gate, asked.capacity) {
         Ok(client) => Ok(client),
         Err(ClientFault { disk, cause }) => {
-            let detail = cause_detail(rt.alloc(), asked.file, cause);
-            if asked.is_new && cause != FileFault::NotEmpty {
-                let _ = fs::remove_file(rt, asked.file);
+            if cause == FileFault::NotEmpty {
+                there(rt, asked, disk)
+            } else {
+                Err(unmade(rt, asked, disk, cause))
             }
-            drop(disk);
-            Err(SendFault::GateFile(cause, detail))
         }
     }
+}
+
+/// The client of a file that holds something, where `--new` is given.
+fn there<R: AllocGlobal + Files<File = File>>(
+    rt: &R,
+    asked: &Arguments<'_>,
+    disk: FileDisk,
+) -> Result<Client<FileDisk>, SendFault> {
+    let (mut disk, cause) = match Client::open(rt.alloc(), disk, asked.gate) {
+        Ok(client) => return Ok(client),
+        Err(ClientFault { disk, cause }) => (disk, cause),
+    };
+    let fault = file_fault(rt, asked, cause);
+    if cause != FileFault::NoFile || !is_unfinished(&mut disk) {
+        return Err(fault);
+    }
+    // Its name goes while its lock is held, so that no other run has opened it.
+    if let Err(error) = fs::remove_file(rt, asked.file) {
+        return Err(SendFault::File(said(rt.alloc(), asked.file, &error)));
+    }
+    drop(disk);
+    match Client::create(disk_at(rt, asked)?, asked.gate, asked.capacity) {
+        Ok(client) => Ok(client),
+        Err(ClientFault { disk, cause }) => Err(unmade(rt, asked, disk, cause)),
+    }
+}
+
+/// Whether a file, which is no gate's file, is one whose making was cut off: it holds no touch. Its
+/// mark is closed, behind it stands a journal's name, or zeros in the place of bytes of it that
+/// weren't written, and it has no more bytes than a header and a mark.
+fn is_unfinished<D: Disk>(disk: &mut D) -> bool {
+    let mut start = [MARK_CLOSED; NAME.len() + 1];
+    let (Ok(size), Ok(_)) = (disk.len(), disk.read(0, &mut start)) else {
+        return false;
+    };
+    let mut name = start.iter().skip(1).zip(NAME.iter());
+    let is_cut_off = |(byte, wanted): (&u8, &u8)| *byte == 0 || byte == wanted;
+    size <= UNFINISHED && start[0] == MARK_CLOSED && name.all(is_cut_off)
+}
+
+/// The fault of a file that isn't made. It is removed, if it can be, while its lock is held: but
+/// one that held something stays.
+fn unmade<R: AllocGlobal + Files<File = File>>(
+    rt: &R,
+    asked: &Arguments<'_>,
+    disk: FileDisk,
+    cause: FileFault,
+) -> SendFault {
+    let told = file_fault(rt, asked, cause);
+    if cause != FileFault::NotEmpty {
+        let _ = fs::remove_file(rt, asked.file);
+    }
+    drop(disk);
+    told
+}
+
+/// The fault of a gate's file that isn't made or opened.
+fn file_fault<R: AllocGlobal>(rt: &R, asked: &Arguments<'_>, cause: FileFault) -> SendFault {
+    SendFault::GateFile(cause, cause_detail(rt.alloc(), asked.file, cause))
 }
 
 /// The file of the system. One that isn't there is made with `--new` alone.

@@ -1,4 +1,5 @@
 //! The lines of the input: each is read, kept as a touch, settled and told before the next is read.
+//! A line that asks for no touch is told, and the next one is read.
 
 use crate::arguments::Arguments;
 use crate::fault::{Detail, SendFault};
@@ -15,10 +16,19 @@ use tap_disk::FileDisk;
 
 /// How a line that asks for a touch is written.
 const FORMS: &str = "write issue CARD, in CARD STATION, out CARD STATION or top-up CARD PENCE, \
-behind at SECONDS where it isn't of now";
+with at SECONDS before it for a moment other than now";
 
 /// The most of a bad line that is shown, in characters.
 const SHOWN: usize = 40;
+
+/// What came of the lines of an input that was read to its end.
+#[derive(Clone, Copy, Debug, PartialEq, Eq)]
+pub(crate) enum Sent {
+    /// Each asked for a touch, and was answered.
+    All,
+    /// The others were: at least one asked for no touch.
+    ButBadLines,
+}
 
 /// A run over a gate's file.
 struct Run<'a, R> {
@@ -52,7 +62,7 @@ pub(crate) fn send_lines<
         + Eprint
         + Net<Listener = TcpListener, Stream = TcpStream>
         + Clock,
->(rt: &R, client: Client<FileDisk>, asked: &Arguments<'_>) -> Result<(), SendFault> {
+>(rt: &R, client: Client<FileDisk>, asked: &Arguments<'_>) -> Result<Sent, SendFault> {
     let timeout = Duration::from_millis(u64::from(asked.timeout));
     let station = TcpStation::new(rt, asked.addresses.as_slice(), timeout, asked.pause);
     let mut run = Run {
@@ -65,7 +75,7 @@ pub(crate) fn send_lines<
     if let Some(touch) = run.client.waiting() {
         run.settle(&touch)?;
     }
-    if asked.resends { Ok(()) } else { run.lines() }
+    if asked.resends { Ok(Sent::All) } else { run.lines() }
 }
 
 impl<
@@ -77,22 +87,44 @@ impl<
         + Clock,
 > Run<'_, R> {
     /// Reads the input line by line to its end, and sends what each asks for.
-    fn lines(&mut self) -> Result<(), SendFault> {
+    fn lines(&mut self) -> Result<Sent, SendFault> {
+        let mut sent = Sent::All;
         let mut line = String::new(self.rt.alloc());
         for number in 1..u64::MAX {
-            line.clear();
-            match self.rt.read_line(&mut line) {
-                Ok(0) => return Ok(()),
-                Ok(_) => self.line(number, line.as_str())?,
-                Err(error) => return Err(read_fault(&error, number)),
+            match self.next_line(number, &mut line) {
+                Ok(true) => {}
+                Ok(false) => return Ok(sent),
+                Err(fault) => {
+                    if !fault.is_bad_line() {
+                        return Err(fault);
+                    }
+                    // Where it can't be told, the status says it.
+                    let _ = fault.tell(self.rt);
+                    sent = Sent::ButBadLines;
+                }
             }
         }
-        Ok(())
+        Ok(sent)
+    }
+
+    /// Reads the next line, and sends what it asks for. It is false at the input's end.
+    fn next_line(&mut self, number: u64, line: &mut String) -> Result<bool, SendFault> {
+        line.clear();
+        match self.rt.read_line(line) {
+            Ok(0) => Ok(false),
+            Ok(_) => {
+                self.line(number, line.as_str())?;
+                Ok(true)
+            }
+            Err(error) => Err(read_fault(&error, number)),
+        }
     }
 
     /// Sends what a line asks for.
     fn line(&mut self, number: u64, line: &str) -> Result<(), SendFault> {
         let line = line.strip_suffix('\n').unwrap_or(line);
+        // As other systems end a line.
+        let line = line.strip_suffix('\r').unwrap_or(line);
         let now = self.now()?;
         let Some(asked) = asked_by(line, now) else {
             return Err(bad_line(self.rt.alloc(), number, line));

@@ -13,7 +13,7 @@ mod station;
 use crate::arguments::{Arguments, arguments_of};
 use crate::fault::{SendFault, tell_fault};
 use crate::file::gate_file;
-use crate::lines::send_lines;
+use crate::lines::{Sent, send_lines};
 use std::fs::File;
 use std::net::{Net, TcpListener, TcpStream};
 use std::process::ExitCode;
@@ -23,7 +23,8 @@ use std::{env, io};
 
 fn main(rt: HostRuntime) -> io::Result<ExitCode> {
     match run(&rt) {
-        Ok(()) => Ok(ExitCode::SUCCESS),
+        Ok(Sent::All) => Ok(ExitCode::SUCCESS),
+        Ok(Sent::ButBadLines) => Ok(ExitCode::from(1)),
         Err(fault) => tell_fault(&rt, fault),
     }
 }
@@ -38,7 +39,7 @@ fn run<
         + Eprint
         + Net<Listener = TcpListener, Stream = TcpStream>
         + Clock,
->(rt: &R) -> Result<(), SendFault> {
+>(rt: &R) -> Result<Sent, SendFault> {
     let words = words_of(rt)?;
     let words: Vec<&str> = words.iter().map(|word| word.as_str()).collect(rt.alloc())?;
     let asked = arguments_of(rt.alloc(), words.as_slice())?;
@@ -54,7 +55,7 @@ fn send<
         + Eprint
         + Net<Listener = TcpListener, Stream = TcpStream>
         + Clock,
->(rt: &R, asked: &Arguments<'_>) -> Result<(), SendFault> {
+>(rt: &R, asked: &Arguments<'_>) -> Result<Sent, SendFault> {
     let client = gate_file(rt, asked)?;
     send_lines(rt, client, asked)
 }
