@@ -8,7 +8,7 @@ ghost use Rattle.command_line.specs.Arguments.{IsAllowed};
 
 use crate::balances::{Balances, balances_asked};
 use crate::check::{Check, check_asked};
-use crate::commands::{command, command_named};
+use crate::commands::{command, command_named, wrong_number};
 use crate::history::{History, history_asked};
 use crate::number::{number_asked, number_given, short_in};
 use crate::seal::{Seal, seal_asked};
@@ -175,12 +175,18 @@ fn asked_of<'a>(
 fn refusal(alloc: Global, matches: &ArgMatches<'_>) -> Result<Error, Error>
     ensures { IfOk result (λ error. kind_of error ≡ InvalidValue) }
 {
-    let name = match matches.subcommand() {
-        Some((name, _)) => name,
-        None => "",
+    let (name, wrong) = match matches.subcommand() {
+        Some((name, inner)) => (name, wrong_number(name, inner)),
+        None => ("", None),
     };
     let mut command = command_named(alloc, name)?;
-    Ok(command.error(ErrorKind::InvalidValue, refused_by(name))?)
+    match wrong {
+        Some(wrong) => {
+            let said = format!(in alloc; "{wrong}")?;
+            Ok(command.error(ErrorKind::InvalidValue, &said)?)
+        }
+        None => Ok(command.error(ErrorKind::InvalidValue, refused_by(name))?),
+    }
 }
 
 /// What is said of the command of this name whose values ask for nothing.

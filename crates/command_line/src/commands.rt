@@ -6,7 +6,8 @@ mod gates;
 
 use self::audits::{BALANCES, HISTORY, VERIFY};
 use self::gates::{CHECK, MIGRATE, REPLAY, SERVE};
-use clap::{Arg, ArgAction, Command, Error};
+use crate::number::{WrongNumber, wrong_value};
+use clap::{Arg, ArgAction, ArgMatches, Command, Error};
 use std::alloc::{AllocError, Global};
 
 /// The program's name in its help, whatever file it is started from.
@@ -105,6 +106,36 @@ pub(crate) fn command_named<'a>(alloc: Global, name: &str) -> Result<Command<'a>
     command(alloc)
 }
 
+/// The first option of the command of this name that has another value than its number.
+pub(crate) fn wrong_number<'a>(name: &str, matches: &ArgMatches<'a>) -> Option<WrongNumber<'a>> {
+    for described in &COMMANDS {
+        if described.name == name {
+            return wrong_among(described.parameters, matches);
+        }
+    }
+    None
+}
+
+/// The first of these parameters that has another value than its number.
+fn wrong_among<'a>(
+    parameters: &'static [Parameter],
+    matches: &ArgMatches<'a>,
+) -> Option<WrongNumber<'a>> {
+    for parameter in parameters {
+        if let Takes::Number(value, most) = parameter.takes {
+            if let Some(text) = wrong_value(matches, parameter.name, most) {
+                return Some(WrongNumber {
+                    option: parameter.name,
+                    value,
+                    text,
+                    most,
+                });
+            }
+        }
+    }
+    None
+}
+
 /// The command line with a command.
 fn with_command<'a>(
     alloc: Global,
@@ -158,7 +189,7 @@ fn taking<'a>(alloc: Global, parameter: &Parameter) -> Arg<'a> {
         Takes::Pair(values) => option(alloc, name).num_args(2).value_names(values),
         Takes::Three(values) => option(alloc, name).num_args(3).value_names(values),
         Takes::Word(value, words) => option(alloc, name).value_name(value).value_parser(words),
-        Takes::Number(value, limit) => number(alloc, name, limit).value_name(value),
+        Takes::Number(value, _) => option(alloc, name).value_name(value),
         Takes::Revisions => revisions(alloc, name),
     }
 }
@@ -166,11 +197,6 @@ fn taking<'a>(alloc: Global, parameter: &Parameter) -> Arg<'a> {
 /// An option with a value.
 fn option<'a>(alloc: Global, name: &'a str) -> Arg<'a> {
     Arg::new(alloc, name).long(name).action(ArgAction::Set)
-}
-
-/// An option with a number from 1 to a limit.
-fn number<'a>(alloc: Global, name: &'a str, limit: u32) -> Arg<'a> {
-    option(alloc, name).value_parser(clap::value_parser!(u32).range(1..=i64::from(limit)))
 }
 
 /// The files of further fare tables, as the last words of a command.

@@ -11,6 +11,7 @@ ghost use Rattle.journal_commands.specs.Verified.{HasEndedEarly, HasVerifiedAs, 
 ghost use Rattle.journal_commands.specs.Verified.{HasVerifiedFile, HasEndedFileEarly, IsFileUnread};
 
 use crate::fault::CommandFault;
+use crate::settled::settled_bytes;
 use command_line::{Seal as AskedSeal, Sealed as NamedSeal, Verify};
 use fare_schedule::Schedule;
 use journal_audit::{Asked, Finding, Seal, Sealed, audit_gate_file, audit_journal};
@@ -25,9 +26,9 @@ use table_commands::{TrialFault, WholeFiles, tables_in};
 ///
 /// The tables are looked at first, and then the journal's file. It is opened for reading alone, and
 /// isn't locked: a server or a gate may go on with it. It is read to its end before anything is
-/// written.
-pub fn verify_journal<F: WholeFiles, W: Write>(
-    alloc: Global,
+/// written, and read again where it changed meanwhile and looks damaged.
+pub fn verify_journal<R: AllocGlobal + Eprint, F: WholeFiles, W: Write>(
+    rt: &R,
     files: &F,
     asked: &Verify<'_>,
     writer: &mut W,
@@ -38,15 +39,15 @@ pub fn verify_journal<F: WholeFiles, W: Write>(
         (W.contents writer.old) (W.contents writer.new) (writer.new ≡ writer.old)) }
 {
     match asked.gate {
-        Some(gate) => verify_gate_file(alloc, files, gate, asked, writer),
-        None => verify_station(alloc, files, asked, writer),
+        Some(gate) => verify_gate_file(rt, files, gate, asked, writer),
+        None => verify_station(rt, files, asked, writer),
     }
 }
 
 /// Writes what a station's journal in a file holds, by the fare tables that are named, where they
 /// are.
-fn verify_station<F: WholeFiles, W: Write>(
-    alloc: Global,
+fn verify_station<R: AllocGlobal + Eprint, F: WholeFiles, W: Write>(
+    rt: &R,
     files: &F,
     asked: &Verify<'_>,
     writer: &mut W,
@@ -60,16 +61,17 @@ fn verify_station<F: WholeFiles, W: Write>(
         ⊎ HasEndedEarly (F.gave files.now) asked.now
         (W.contents writer.old) (W.contents writer.new) fault) }
 {
+    let alloc = rt.alloc();
     let schedule = tables_asked(alloc, files, asked)?;
-    let bytes = files.bytes_in(alloc, asked.journal)?;
+    let bytes = settled_bytes(rt, files, asked.journal)?;
     let wanted = asked_of(asked);
     let found = audit_journal(alloc, schedule, wanted, &bytes, writer)?;
     Ok(ExitCode::from(status_of(found)))
 }
 
 /// Writes what the file of this gate holds.
-fn verify_gate_file<F: WholeFiles, W: Write>(
-    alloc: Global,
+fn verify_gate_file<R: AllocGlobal + Eprint, F: WholeFiles, W: Write>(
+    rt: &R,
     files: &F,
     gate: u16,
     asked: &Verify<'_>,
@@ -81,9 +83,9 @@ fn verify_gate_file<F: WholeFiles, W: Write>(
         ⊎ HasEndedFileEarly (F.gave files.now) asked.now gate
         (W.contents writer.old) (W.contents writer.new) fault) }
 {
-    let content = files.bytes_in(alloc, asked.journal)?;
+    let content = settled_bytes(rt, files, asked.journal)?;
     let wanted = asked_of(asked);
-    let found = audit_gate_file(alloc, gate, wanted, &content, writer)?;
+    let found = audit_gate_file(rt.alloc(), gate, wanted, &content, writer)?;
     Ok(ExitCode::from(status_of(found)))
 }
 

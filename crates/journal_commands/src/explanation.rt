@@ -125,8 +125,9 @@ impl<'a> OpenedBy<'a> {
 }
 
 /// The fault of a command, with what stands behind its line: of `WrongTable` and `WrongCards` what
-/// the journal has and what was given, and of `MissingTable` which table it is, the day of its
-/// revision, and whether that was accepted. Its line stays, and any other fault stays as it is.
+/// the journal has and what was given, of `MissingTable` which table it is, the day of its
+/// revision, and whether that was accepted, and of `NotAJournal`, `WrongVersion`, `BadLimit` and
+/// `Damaged` which file it is. Its line stays, and any other fault stays as it is.
 ///
 /// Where a file can't be read again, or without memory, nothing more is told.
 pub fn explained<F: WholeFiles>(
@@ -163,9 +164,21 @@ fn detail_of<F: WholeFiles>(
         Some(JournalFault::WrongTable) => other_table_of(alloc, files, opened),
         Some(JournalFault::WrongCards) => other_cards_of(alloc, files, opened),
         Some(JournalFault::MissingTable(place)) => missing_table_of(alloc, files, opened, place),
+        Some(cause) if is_of_file(cause) => return Some(Detail::of_file(alloc, opened.journal)),
         _ => None,
     };
     said.map(|said| Detail::of(alloc, opened.journal, &said))
+}
+
+/// Whether a journal is refused for what its file alone holds, whatever was given.
+fn is_of_file(cause: JournalFault) -> bool {
+    matches!(
+        cause,
+        JournalFault::NotAJournal
+            | JournalFault::WrongVersion
+            | JournalFault::BadLimit
+            | JournalFault::Damaged(_)
+    )
 }
 
 /// The table by which a journal was made, and the one that was named.

@@ -15,6 +15,7 @@ mod making;
 mod migrate;
 mod output;
 mod refusal;
+mod settled;
 mod standby;
 
 pub use audit::verify_journal;

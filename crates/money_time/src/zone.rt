@@ -3,7 +3,7 @@ ghost use Rattle.std.specs.Prelude.{◌≡◌, ◌-ℤ◌, ◌≤ℤ◌, pos, Ok
 ghost use Rattle.std.specs.List.{All};
 ghost use Rattle.std.proofs.Props.{props};
 ghost use Rattle.jiff.specs.Words.{read_whole, offset_at, plain_zone, nanos_of_seconds};
-ghost use Rattle.jiff.specs.Words.{IsOffsetSeconds};
+ghost use Rattle.jiff.specs.Words.{IsOffsetSeconds, epoch_day};
 ghost use Rattle.money_time.specs.Span.{IsSpanOf};
 
 use crate::fault::TimeFault;
@@ -11,6 +11,7 @@ use crate::span::Span;
 use crate::spans::{self, SPANS, SPANS_A_YEAR};
 use crate::stamp::{self, Stamp};
 use jiff::Timestamp;
+use jiff::civil::DateTime;
 use jiff::tz::TimeZone;
 
 /// The rule by which a zone's clock goes, summer time among it.
@@ -23,6 +24,7 @@ pub struct Zone {
 }
 
 impl Zone {
+    ghost use Rattle.std.specs.Prelude.{◌+◌, ◌*◌};
     ghost use Rattle.money_time.specs.Stamp.{stamp_of, window_of};
     ghost use Rattle.money_time.specs.Zone.{IsZoneOf, rule_of, civil_day, civil_minute};
 
@@ -60,6 +62,18 @@ impl Zone {
             minute,
             window: stamp::window_on(day, minute, holidays),
         })
+    }
+
+    /// The civil date and time that the clock shows at a moment, as `jiff` itself converts it.
+    ///
+    /// `moment` is in seconds since 1970-01-01 00:00:00 UTC. Date and minute are those that a stamp
+    /// rests on. It takes no memory, and searches the rule's changes: `stamp` is faster.
+    pub fn datetime(&self, moment: u32) -> DateTime
+        ensures day { epoch_day result.date ≡ civil_day (rule_of self.now) moment }
+        ensures minute { result.time.hour * 60 + result.time.minute
+            ≡ civil_minute (rule_of self.now) moment }
+    {
+        self.rule.to_datetime(instant_of(moment))
     }
 
     /// The civil date that the clock shows at a moment, in days since 1970-01-01, and the minute of

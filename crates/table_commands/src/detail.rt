@@ -38,8 +38,8 @@ impl Detail {
         Detail { line: line.ok() }
     }
 
-    /// The line that names a file alone.
-    pub(crate) fn of_file(alloc: Global, path: &str) -> Detail {
+    /// The line that names a file alone. Without memory there is none.
+    pub fn of_file(alloc: Global, path: &str) -> Detail {
         let line = format!(in alloc; "  {path}");
         Detail { line: line.ok() }
     }

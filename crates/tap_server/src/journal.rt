@@ -33,17 +33,34 @@ struct JournalPath<'a, R> {
     has_told: bool,
 }
 
+impl<R: Files<File = File>> JournalPath<'_, R> {
+    /// Why the file isn't there, where it has to be.
+    fn missing(&self) -> Option<Refusal> {
+        if self.is_strict {
+            missing_refusal(self.rt, self.path)
+        } else {
+            None
+        }
+    }
+
+    /// Why the file wasn't had. One that has to be there, and was taken away meanwhile, isn't made.
+    fn refusal(&self) -> Refusal {
+        match self.missing() {
+            Some(refusal) => refusal,
+            None => journal_refusal(self.rt, self.path, true),
+        }
+    }
+}
+
 impl<R: AllocGlobal + Files<File = File> + Clock + Eprint> JournalLock<FileDisk>
     for JournalPath<'_, R> {
     fn take(&mut self) -> Result<FileDisk, Refusal> {
-        if self.is_strict {
-            if let Some(refusal) = missing_refusal(self.rt, self.path) {
-                return Err(refusal);
-            }
+        if let Some(refusal) = self.missing() {
+            return Err(refusal);
         }
         match FileDisk::at(self.rt, self.path) {
             Ok(disk) => Ok(disk),
-            Err(_) => Err(journal_refusal(self.rt, self.path, true)),
+            Err(_) => Err(self.refusal()),
         }
     }
 

@@ -25,13 +25,13 @@ pub(crate) fn migrate<R: AllocGlobal + Files<File = File> + Eprint, F: WholeFile
 }
 
 /// Tells of a journal what its bytes hold.
-pub(crate) fn verify<R: AllocGlobal, F: WholeFiles, W: Write>(
+pub(crate) fn verify<R: AllocGlobal + Eprint, F: WholeFiles, W: Write>(
     rt: &R,
     files: &F,
     asked: &Verify<'_>,
     output: &mut W,
 ) -> Result<ExitCode, CommandFault> {
-    match verify_journal(rt.alloc(), files, asked, output) {
+    match verify_journal(rt, files, asked, output) {
         Ok(status) => Ok(status),
         Err(fault) => Err(explained(rt.alloc(), files, OpenedBy::verify(asked), fault)),
     }

@@ -64,7 +64,7 @@ struct Terms<'a> {
 /// writes the report. The tables are looked at before the journal, which is made where its file is
 /// empty, and open slots behind its end are told of.
 ///
-/// A server that is strict makes no journal, and serves none with more than one open slot behind
+/// A server that is strict makes no journal, and serves none with more than two open slots behind
 /// its end. One on standby waits for a journal that another server has.
 pub(crate) fn serve_gates<
     R: System + Files<File = File> + Net<Listener = TcpListener, Stream = TcpStream>,
@@ -105,7 +105,7 @@ fn serve_journal<
 }
 
 /// Reads the journal on a disk, by a schedule without a revision, where a server may go on with it:
-/// one that is strict goes on where at most one open slot stands behind the journal's end.
+/// one that is strict goes on where at most two open slots stand behind the journal's end.
 fn read_opening<D: Disk + Drop, R: AllocGlobal + Files>(
     rt: &R,
     disk: D,

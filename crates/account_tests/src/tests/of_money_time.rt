@@ -1,4 +1,5 @@
 //! Stamps and dates whose values were worked out by hand, or come from the system's `date`.
+use jiff::civil::DateTime;
 use money_time::{Stamp, TimeFault, Window, Zone, day_of};
 use std::alloc::{AllocError, AllocFailed};
 use std::fmt::Debug;
@@ -175,6 +176,23 @@ fn each_zone_goes_by_its_rule(rt: HostRuntime) -> Result<(), Fail> {
         (1740798000, 20147, 180, Window::Off),
     ];
     assert_stamps(&rt, "ABC1DEF,59/2,299/2", &[], &rows)?;
+    Ok(())
+}
+
+// The civil dates and times are those of the system's `TZ=RULE date -d @MOMENT`.
+#[test]
+fn the_clock_shows_what_jiff_converts(rt: HostRuntime) -> Result<(), Fail> {
+    let rows = [
+        (LONDON, 1736144999, (2025, 1, 6), (6, 29, 59)),
+        (LONDON, 1751866200, (2025, 7, 7), (6, 30, 0)),
+        ("EST5", 0, (1969, 12, 31), (19, 0, 0)),
+        ("<+0530>-5:30", 1751849999, (2025, 7, 7), (6, 29, 59)),
+    ];
+    for (rule, moment, (year, month, day), (hour, minute, second)) in rows {
+        let shown = Zone::read(rule)?.datetime(moment);
+        let want = DateTime::new(year, month, day, hour, minute, second, 0).ok();
+        assert_same_at(&rt, Some(shown), want, (rule, moment));
+    }
     Ok(())
 }
 

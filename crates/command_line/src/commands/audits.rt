@@ -23,7 +23,8 @@ Example, the file of a gate:
 The journal is only read, and stays as it is. A server may go on with it.
 
 Statuses: 0 the journal is sound, 1 a fault (standard error has its line),
-2 a wrong command line, 3 sound, but more than one slot behind its end is open";
+2 a wrong command line, 3 sound, but more than two slots behind its end are open,
+141 nobody reads the output";
 
 /// What `history` does.
 const HISTORY_ABOUT: &str = "Writes each touch of a journal with its reply, oldest first";
@@ -43,7 +44,7 @@ Example, a replay of the journal:
 The journal is only read, and stays as it is. A server may go on with it.
 
 Statuses: 0 the history is written, 1 a fault (standard error has its line),
-2 a wrong command line";
+2 a wrong command line, 141 nobody reads the output";
 
 /// What `balances` does.
 const BALANCES_ABOUT: &str = "Writes what each issued card of a journal holds";
@@ -59,7 +60,7 @@ The sums over all cards go to standard error. The journal is only read, and stay
 server may go on with it.
 
 Statuses: 0 each balance is what was paid in less what was charged, 1 a fault (standard error has
-its line), 2 a wrong command line";
+its line), 2 a wrong command line, 141 nobody reads the output";
 
 /// What a seal is, as it is written.
 const SEAL_VALUES: [&str; 2] = ["N", "DIGEST"];

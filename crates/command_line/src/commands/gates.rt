@@ -77,7 +77,7 @@ const MIGRATE_EXAMPLE: &str = "Example:
 The old journal is only read, and stays as it is.
 
 Statuses: 0 the new journal is whole, 1 a fault (standard error has its line),
-2 a wrong command line";
+2 a wrong command line, 141 nobody reads the output";
 
 /// The command `replay`.
 pub(super) const REPLAY: Described = Described {
@@ -284,7 +284,7 @@ const STRICT_JOURNAL: Parameter = Parameter {
     takes: Takes::Flag,
     rule: Rule::Optional,
     help: "Makes no journal: refuses one that isn't there or is empty,
-that has more than one open slot behind its end, or of which
+that has more than two open slots behind its end, or of which
 that can't be read; without it the server makes a journal,
 and tells of such slots",
 };

@@ -3,13 +3,15 @@
 ghost use Rattle.std.specs.Prelude.{◌≡◌};
 ghost use Rattle.journal_audit.specs.Finding.{finding_of, last_line};
 
+use tap_journal::BEHIND_LIMIT;
+
 /// What an audit finds of a sound journal.
 #[derive(Clone, Copy, Debug, PartialEq, Eq)]
 pub enum Finding {
     /// It is sound, and no more is to be said.
     Sound,
-    /// It is sound, and more than one slot behind its end has an open mark. A crash leaves at most
-    /// one: the touches in these slots may have been answered.
+    /// It is sound, and more slots behind its end have an open mark than crashes leave: the touches
+    /// in these slots may have been answered.
     LookBehind,
 }
 
@@ -17,10 +19,10 @@ pub enum Finding {
 pub(crate) fn finding_of(behind: u32) -> Finding
     ensures { result ≡ finding_of behind }
 {
-    match behind {
-        0 => Finding::Sound,
-        1 => Finding::Sound,
-        _ => Finding::LookBehind,
+    if behind <= BEHIND_LIMIT {
+        Finding::Sound
+    } else {
+        Finding::LookBehind
     }
 }
 

@@ -275,3 +275,21 @@ fn a_beginning_stands_where_a_write_fails_or_takes_nothing(rt: HostRuntime) -> R
     }
     Ok(())
 }
+
+#[test]
+fn one_line_is_answered_before_a_read_fails_and_not_where_the_write_does(
+    rt: HostRuntime,
+) -> Result<(), Fail> {
+    let alloc = rt.alloc();
+    let first = &FIRST_PATH[..1];
+    let asked = lines_of(alloc, first, false)?;
+    let answered = lines_of(alloc, first, true)?;
+    let reader = Pieces {
+        rest: asked.as_slice(),
+        size: 1_000,
+        fails: true,
+    };
+    let ended = Err(ReplayFault::Run(RunFault::Read));
+    assert_read(&rt, reader, 1_000, ended, answered.as_slice())?;
+    assert_begun(&rt, asked.as_slice(), answered.as_slice(), 0, true)
+}

@@ -8,16 +8,16 @@ use std::process::Abort;
 use std::test::Fail;
 
 /// A sixth station that has the number of the third.
-const SIXTH_STATION: Change = (
+pub(super) const SIXTH_STATION: Change = (
     "zones = [2, 3]},\n]",
     "zones = [2, 3]},\n  {id = 3, name = \"Fir\", zones = [1]},\n]",
 );
 
 /// No single from 1 to 3.
-const NO_SINGLE: Change = ("  {low = 1, high = 3, peak = 400, off_peak = 310},\n", "");
+pub(super) const NO_SINGLE: Change = ("  {low = 1, high = 3, peak = 400, off_peak = 310},\n", "");
 
 /// A maximum off-peak below the 310 pence from 1 to 3, and above all other prices.
-const LOW_MAXIMUM: Change = ("maximum_off_peak = 700", "maximum_off_peak = 309");
+pub(super) const LOW_MAXIMUM: Change = ("maximum_off_peak = 700", "maximum_off_peak = 309");
 
 /// The table of a text, read again where memory was refused.
 fn read_again(alloc: Global, text: &str) -> Result<Fares, TableFault> {

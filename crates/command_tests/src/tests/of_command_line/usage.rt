@@ -11,7 +11,7 @@ fn told_of(alloc: Global, line: &str) -> Option<String> {
     format!(in alloc; "{error}").ok()
 }
 
-/// The refusal of this command line shows how its command is used.
+/// The refusal of this command line says this of its command.
 fn assert_usage(rt: &impl Abort, alloc: Global, line: &str, usage: &str) {
     let told = told_of(alloc, line).expect(rt, "a refusal");
     assert_same_at(rt, told.contains(usage), true, told.as_str());
@@ -36,6 +36,16 @@ fn a_value_that_is_refused_is_told_with_the_usage_of_its_command(rt: HostRuntime
         (
             "replay --cards +10",
             "\nUsage: bovtrila replay [OPTIONS] --cards <N> [REVISION]...\n",
+        ),
+        (
+            "replay --cards 1,000",
+            "invalid value '1,000' for '--cards <N>': \
+             a whole number from 1 to 100000, in the digits 0 to 9 alone\n",
+        ),
+        (
+            "verify --journal a --expect-capacity 1000001",
+            "invalid value '1000001' for '--expect-capacity <N>': \
+             a whole number from 1 to 1000000, in the digits 0 to 9 alone\n",
         ),
     ];
     for (line, usage) in &rows {

@@ -78,3 +78,33 @@ holiday 2025-12-25: yes -> none\nmaximum_peak: none -> 900\nholiday 2025-12-26: 
     assert_same_at(&rt, same.as_str(), "", OLD);
     Ok(())
 }
+
+/// The old table with each of its holidays twice, and one more.
+const TWICE: &str = "zone = \"GMT0\"\nentry_minimum = 150\nevening_rule = true\n\
+holidays = [\"2026-01-01\", \"2025-12-25\", \"2026-01-01\", \"2025-12-25\"]\n\
+station = [{id = 1, name = \"Alder\", zones = [1]}, {id = 2, name = \"Birch\", zones = [2, 3]}]\n\
+single = [{low = 1, high = 2, peak = 350, off_peak = 290}]\n\
+pair = [{from = 2, to = 1, lo = 1, hi = 2, peak = 230, off_peak = 200}]\n\
+cap = [{lo = 1, hi = 2, kind = \"off-peak\", price = 600}]\n\
+interchange = [{a = 1, b = 2, minutes = 10}]\n";
+
+#[test]
+fn a_holiday_that_is_listed_twice_has_one_line(rt: HostRuntime) -> Result<(), Fail> {
+    let alloc = rt.alloc();
+    let (old, twice) = (reading(alloc, OLD)?, reading(alloc, TWICE)?);
+    let told = changes_of(alloc, &old, &twice)?;
+    assert_same_at(
+        &rt,
+        told.as_str(),
+        "holiday 2026-01-01: none -> yes\n",
+        TWICE,
+    );
+    let back = changes_of(alloc, &twice, &old)?;
+    assert_same_at(
+        &rt,
+        back.as_str(),
+        "holiday 2026-01-01: yes -> none\n",
+        TWICE,
+    );
+    Ok(())
+}
