@@ -1,3 +1,4 @@
+/* SPDX-License-Identifier: Apache-2.0 */
 /* A gate's side of Bovtrila: touches that are kept before they are sent, and sent until they are answered.
 
    A gate tells the station's account server what happened to a card: a touch in, a touch out, a top-up, an issue. The
@@ -16,17 +17,21 @@
    The rules for whoever calls:
 
    - Open the barrier on BOVTRILA_ACCEPTED for a touch in or out whose passenger stands there, and on nothing else: from
-     bovtrila_touch_in or bovtrila_touch_out, or later from bovtrila_resend.
+     bovtrila_touch_in or bovtrila_touch_out, or later from bovtrila_resend. A touch that was made before this start of
+     the gate is answered by BOVTRILA_ACCEPTED_EARLIER: the barrier stays closed.
+   - Act on each reply, then call bovtrila_done. A reply reaches the caller at least once: after a loss of power between
+     the two, the next start returns the same reply again.
    - One touch waits at a time. A call that ended without a reply leaves its touch waiting, in the file: whoever wants
      to know what came of it calls bovtrila_resend. A passenger who holds the card up again meanwhile is still of that
      touch: once it is settled, calling bovtrila_touch_in again would report a second one.
    - One gate number has one file, and one file one gate number. A gate whose file is lost takes a number that no gate
      of the station has had, and makes a new file. Never copy a file back from a backup: its numbers were used since.
-   - A gate is used by one thread at a time. Several gates may be used by as many threads: they share nothing.
+   - A gate is used by one thread at a time. Several gates may be used by as many threads: they share nothing. Only
+     bovtrila_cancel may be called at any time, by any thread and by a signal handler.
    - Money is in whole pence. A moment is in seconds since 1970-01-01 00:00:00 UTC, by the gate's clock. A gate that
      doesn't know the time reports no touch: a wrong moment charges a wrong fare, and one that is ahead bars the card.
 
-   The library takes memory in bovtrila_open alone. It starts no thread, handles no signal and writes no log. */
+   The library takes memory in bovtrila_open alone, but for getaddrinfo where a host wasn't known then. It starts no thread, handles no signal and writes no log. */
 #ifndef BOVTRILA_GATE_H
 #define BOVTRILA_GATE_H
 
@@ -36,6 +41,12 @@
 #ifdef __cplusplus
 extern "C" {
 #endif
+
+/* The version of this header. bovtrila_version returns that of the library. */
+#define BOVTRILA_VERSION_MAJOR 1
+#define BOVTRILA_VERSION_MINOR 1
+#define BOVTRILA_VERSION_PATCH 0
+#define BOVTRILA_VERSION "1.1.0"
 
 #if defined __GNUC__
 #define BOVTRILA_LOOK_AT __attribute__((warn_unused_result))
@@ -49,7 +60,8 @@ enum bovtrila_result {
     BOVTRILA_NOTHING = 0,
 
     /* The station's reply. The touch is settled: it stands in the station's history, and is never sent again. */
-    BOVTRILA_ACCEPTED = 1,        /* `verdict` is below 20; `change` and `balance` are the card's */
+    BOVTRILA_ACCEPTED = 1,        /* `verdict` is below 20; `change` and `balance` are the card's. A touch that was made
+                                     before this opening of the gate is answered by BOVTRILA_ACCEPTED_EARLIER instead */
     BOVTRILA_REFUSED = 2,         /* `verdict` is 20 or above; `balance` is the card's, and nothing was charged */
 
     /* The answer to an enquiry. */
@@ -64,7 +76,7 @@ enum bovtrila_result {
     /* This touch was not asked: it isn't kept, it was not sent, and it took no number. */
     BOVTRILA_EARLIER_SETTLED = 7, /* an earlier touch waited, and this call settled it: bovtrila_settled has its reply.
                                      Look at it, and call again if this touch is still wanted */
-    BOVTRILA_EARLIER_WAITS = 8,   /* an earlier touch waits, and this call sent it again in vain */
+    BOVTRILA_EARLIER_WAITS = 8,   /* an earlier touch waits: this call sent it again in vain, or was cancelled */
     BOVTRILA_NO_ROOM = 9,         /* the gate's file has no room. Go on with another gate number and a new file */
     BOVTRILA_STOPPED = 10,        /* an earlier call answered BOVTRILA_DEVICE: close the gate, and open it again */
     BOVTRILA_MISUSE = 11,         /* a pointer is NULL */
@@ -77,28 +89,38 @@ enum bovtrila_result {
     BOVTRILA_NONE_WAITS = 13,
 
     /* Of bovtrila_ask alone: the touch is in the file, and waits. Nothing was sent. */
-    BOVTRILA_KEPT = 14
+    BOVTRILA_KEPT = 14,
+
+    /* A reply as BOVTRILA_ACCEPTED, to a touch that bovtrila_open found in the file. Its passenger was let through before
+       this start, or has left: never open a barrier on it. */
+    BOVTRILA_ACCEPTED_EARLIER = 15,
+
+    /* bovtrila_cancel ended the call. As after BOVTRILA_NO_ANSWER the touch waits: it is in the gate's file, and may be in
+       the station's history or not. Keep the barrier closed. After an enquiry nothing waits. */
+    BOVTRILA_CANCELLED = 16
 };
 
 /* The server's faults, by their numbers. A fault doesn't show that the touch was recorded, and after each of them the
    touch waits. A number that is not listed is kept for later versions: treat it as BOVTRILA_FAULT_HALTED. */
 enum bovtrila_fault {
+    /* generated: faults */
     BOVTRILA_FAULT_BAD_FRAME = 1,     /* what came is no request: something on the way, or this library, is broken */
     BOVTRILA_FAULT_CONFLICT = 2,      /* another touch has this gate and number: the gate number isn't this gate's own.
-                                         No repeat changes it. Take a new gate number and a new file */
+                                         No repeat changes it (docs/PROTOCOL.md, "A way out of Conflict") */
     BOVTRILA_FAULT_HALTED = 3,        /* the server's disk failed. It may have recorded the touch; a server that is
                                          started again, or another address, will tell: call bovtrila_resend later */
     BOVTRILA_FAULT_MEMORY = 4,        /* nothing was recorded: call bovtrila_resend */
     BOVTRILA_FAULT_FULL = 5,          /* nothing was recorded, the station's history is full: tell the staff */
     BOVTRILA_FAULT_UNKNOWN_TABLE = 6  /* a revision names a fare table that the server wasn't started with: nothing was
                                          recorded. Once it is started with that table, call bovtrila_resend */
+    /* end: faults */
 };
 
 /* The answer to a touch. Where there is no reply, verdict, change and balance are 0. */
 typedef struct bovtrila_answer {
     enum bovtrila_result result;
     uint32_t number;              /* the number of the touch, 0 where it wasn't kept */
-    uint8_t verdict;              /* of BOVTRILA_ACCEPTED and BOVTRILA_REFUSED (docs/PROTOCOL.md, "Verdicts") */
+    uint8_t verdict;              /* of the three replies (docs/PROTOCOL.md, "Verdicts"), else 0 */
     uint8_t fault;                /* of BOVTRILA_FAULT, else 0 */
     int32_t change;               /* the card's new balance less the old one, in pence */
     int64_t balance;              /* the card's balance after the touch, in pence; it may be below 0 */
@@ -115,11 +137,13 @@ typedef struct bovtrila_holding {
 
 /* The kinds of touches. */
 enum bovtrila_kind {
+    /* generated: kinds */
     BOVTRILA_TOUCH_IN = 1,
     BOVTRILA_TOUCH_OUT = 2,
     BOVTRILA_TOP_UP = 3,
     BOVTRILA_ISSUE = 4,
     BOVTRILA_REVISION = 6
+    /* end: kinds */
 };
 
 /* A touch as the gate's file has it. What its kind doesn't have is 0. */
@@ -141,18 +165,21 @@ typedef struct bovtrila_settlement {
 } bovtrila_settlement;
 
 /* Why a gate's file can't be made or opened. After each but BOVTRILA_FILE_OK there is no gate, nothing was sent, and
-   bovtrila_open wrote nothing. They are looked for in this order, but for BOVTRILA_FILE_DEVICE, which comes with the
-   call of the system that failed, and BOVTRILA_FILE_OLD_TAG. */
+   bovtrila_open wrote nothing. They are checked in this order, but for BOVTRILA_FILE_OLD_TAG, and for DEVICE, PERMISSION,
+   NOT_PLAIN and NO_FOLDER, which come with the call of the system that failed; `error` is its errno.
+
+   BOVTRILA_FILE_OK with an `error` that isn't 0 is an open gate of which the host of address `place` is not known yet:
+   the error is that of getaddrinfo. The host is looked up again when no other address answers. */
 enum bovtrila_file_cause {
     BOVTRILA_FILE_OK = 0,
-    BOVTRILA_FILE_MISUSE = 1,         /* a pointer is NULL, or there are too many addresses */
+    BOVTRILA_FILE_MISUSE = 1,         /* a pointer is NULL, there are too many addresses, or the `size` of the options is
+                                         that of no version that this library knows */
     BOVTRILA_FILE_BAD_CAPACITY = 2,   /* of bovtrila_create: it isn't from 1 to BOVTRILA_CAPACITY_LIMIT */
     BOVTRILA_FILE_MEMORY = 3,         /* memory was refused */
-    BOVTRILA_FILE_NO_ADDRESS = 4,     /* address `place` is no HOST:PORT, or the host isn't known; `error` is that of
-                                         getaddrinfo, or 0 */
+    BOVTRILA_FILE_NO_ADDRESS = 4,     /* address `place` is no HOST:PORT with a port from 1 to 65535 */
     BOVTRILA_FILE_MISSING = 5,        /* there is no such file. It is never made in passing: a file that got lost would
                                          be taken for a new gate */
-    BOVTRILA_FILE_DEVICE = 6,         /* a call of the system failed, by `error` (an errno), or it is no plain file */
+    BOVTRILA_FILE_DEVICE = 6,         /* a call of the system failed, by `error` (an errno) */
     BOVTRILA_FILE_IN_USE = 7,         /* another program, or another opening, has it */
     BOVTRILA_FILE_NOT_EMPTY = 8,      /* of bovtrila_create: it holds something, and stays as it is */
     BOVTRILA_FILE_NOT_A_JOURNAL = 9,  /* it is another file, or its making was cut short. If it is the second, it holds
@@ -162,9 +189,13 @@ enum bovtrila_file_cause {
     BOVTRILA_FILE_ANOTHER = 12,       /* the file of another gate, or a station's journal */
     BOVTRILA_FILE_DAMAGED = 13,       /* slot `place` (from 0) is cut short, or holds no touch */
     BOVTRILA_FILE_FOREIGN = 14,       /* the touch in slot `place` isn't this gate's of the number `place` + 1 */
-    BOVTRILA_FILE_OLD_TAG = 15        /* this gate's file, made by a version of this library before 1.1. It is looked for
+    BOVTRILA_FILE_OLD_TAG = 15,       /* this gate's file, made by a version of this library before 1.1. It is looked for
                                          before BOVTRILA_FILE_ANOTHER. docs/GATE_LIBRARY.md, "To change an old file
                                          over", has the commands that make it a file of today with the same touches */
+    BOVTRILA_FILE_PERMISSION = 16,    /* this program may not open the file, not read and write it, or not make it in
+                                         its folder */
+    BOVTRILA_FILE_NOT_PLAIN = 17,     /* it is a folder, a device or a pipe, and no file */
+    BOVTRILA_FILE_NO_FOLDER = 18      /* the folder of the file doesn't exist */
 };
 
 typedef struct bovtrila_file {
@@ -173,14 +204,18 @@ typedef struct bovtrila_file {
     int error;
 } bovtrila_file;
 
+/* generated: limits */
 #define BOVTRILA_CAPACITY_LIMIT 1000000u /* touches of one file, 64 bytes each */
+#define BOVTRILA_FRAME_SIZE 53u          /* the most bytes of a request's frame */
+/* end: limits */
 #define BOVTRILA_ADDRESSES 8u            /* addresses of one gate */
-#define BOVTRILA_FRAME_SIZE 53u          /* the most bytes of a touch's frame */
 
-/* How a gate is opened. Set all to 0 first, as by `bovtrila_options options = {0}`; times are in milliseconds, and one
-   that is 0 is the time in brackets. */
+/* How a gate is opened. Set all to 0 first, by `bovtrila_options options = {0}` (in C++ by `= {}`), and then `size`.
+   Times are in milliseconds, and one that is 0 is the time in brackets. */
 typedef struct bovtrila_options {
-    const char *file;             /* the path of the gate's file, on a local disk */
+    size_t size;                  /* sizeof(bovtrila_options): later versions may add fields at the end */
+    const char *file;             /* the path of the gate's file, on a local disk. The call bovtrila_done writes a second
+                                     file, with the same path and `.done` behind it */
     uint16_t gate;                /* the gate's number */
     const char *const *addresses; /* texts "HOST:PORT" or "[HOST]:PORT", tried in turn. All have to be servers of one
                                      station, of which one at a time has its journal. A host name stands for all that
@@ -202,8 +237,9 @@ typedef struct bovtrila_gate bovtrila_gate;
 bovtrila_file bovtrila_create(const char *file, uint16_t gate, uint32_t capacity) BOVTRILA_LOOK_AT;
 
 /* Opens a gate. It reads the file, looks the addresses up and connects to nothing. `*gate` is the gate, or NULL where
-   the cause isn't BOVTRILA_FILE_OK. If the file has touches, the last one waits: whether it was answered is not in the
-   file. A repeat of an answered touch gets its first reply, and charges nothing. */
+   the cause isn't BOVTRILA_FILE_OK. If the file has touches, the last one waits, unless bovtrila_done has marked it: else
+   nothing shows whether the caller has acted on its reply. A repeat of an answered touch gets its first reply, and
+   charges nothing. */
 bovtrila_file bovtrila_open(const bovtrila_options *options, bovtrila_gate **gate) BOVTRILA_LOOK_AT;
 
 /* Closes a gate, and frees it. What waits is in the file. NULL is let pass. */
@@ -231,7 +267,39 @@ bovtrila_answer bovtrila_revise(bovtrila_gate *gate, const uint8_t digest[32], i
    in a loop it loads neither the network nor the server. */
 bovtrila_answer bovtrila_resend(bovtrila_gate *gate) BOVTRILA_LOOK_AT;
 
-/* The three calls below are for a gate with lines of its own, as through TLS or in a loop of events. They connect to
+/* Cancels the calls that wait for a server: the five that report a touch, bovtrila_resend and bovtrila_enquire. A call
+   that is under way in another thread, or that a signal interrupted, ends at once by BOVTRILA_CANCELLED. Each later one
+   does the same before it sends anything, until bovtrila_clear_cancel. Therefore it makes no difference whether a signal
+   comes just before a call, during it or after it.
+
+   - A touch that is reported while the gate is cancelled is kept in the file and synced, as ever, and waits.
+   - Where an earlier touch waits, a call for another one ends by BOVTRILA_EARLIER_WAITS, as ever.
+   - A call whose answer has come already may return it.
+   - A connection over which an answer may still come is closed, so that it is never taken for a later answer. A try that
+     was cancelled counts as one in vain: the next one waits as before a repeat.
+   - A write to the disk and the look-up of a host are not ended. The call ends once they are done.
+   - Nothing is lost: bovtrila_clear_cancel and bovtrila_resend, or the next start of the gate, fetch the reply.
+
+   It is async-signal-safe, leaves errno as it was, takes no memory and never waits. It may not be called once
+   bovtrila_close has begun: block the signal, or join the thread, before. 1, or 0 where the gate is NULL or the system
+   refused it: nothing was cancelled then, call it again. */
+int bovtrila_cancel(bovtrila_gate *gate);
+
+/* Ends what bovtrila_cancel began: the calls wait for a server again. Every cancel of before this call is cleared, however
+   many there were. Call it in the thread that uses the gate, between two calls. 1, also where nothing was cancelled; 0
+   where the gate is NULL, or where the system refused it, by bovtrila_last_error. */
+int bovtrila_clear_cancel(bovtrila_gate *gate);
+
+/* Marks the touch that was settled last as done: the caller has opened the barrier, given the money back, told the staff,
+   or whatever its reply asks for. The next opening returns no reply to it again. Call it after acting, not before.
+
+   The mark is in a file of its own, the path of the gate's file with `.done` behind it, and is written without waiting
+   for the disk. A loss of power may take it: then the next opening returns the reply again, which does no harm to a
+   caller that keeps the barrier closed on BOVTRILA_ACCEPTED_EARLIER. 1, or 0 where the mark can't be written, by
+   bovtrila_last_error, or where nothing was settled since the gate was opened. */
+int bovtrila_done(bovtrila_gate *gate);
+
+/* The five calls below are for a gate with lines of its own, as through TLS or in a loop of events. They connect to
    nothing, and wait for nothing but the disk. The rules are the same: the caller sends the frame that waits, over
    another connection after each but a whole answer, and waits between repeats (docs/PROTOCOL.md, "When to repeat, and
    how often").
@@ -249,6 +317,14 @@ size_t bovtrila_frame(const bovtrila_gate *gate, uint8_t frame[BOVTRILA_FRAME_SI
    fault 10. */
 bovtrila_answer bovtrila_hear(bovtrila_gate *gate, const uint8_t *bytes, size_t size) BOVTRILA_LOOK_AT;
 
+/* Writes the frame of an enquiry about this card: how many bytes it has, 0 where `frame` is NULL. */
+size_t bovtrila_enquiry(uint32_t card, uint8_t frame[BOVTRILA_FRAME_SIZE]);
+
+/* Hears what came over a connection since the frame of an enquiry was sent over it, as bovtrila_hear: BOVTRILA_SHOWN,
+   BOVTRILA_FAULT, BOVTRILA_NO_ANSWER for a beginning of an answer, BOVTRILA_STRAY or BOVTRILA_MISUSE. An enquiry answer
+   has 16 bytes. */
+bovtrila_holding bovtrila_hear_enquiry(const uint8_t *bytes, size_t size) BOVTRILA_LOOK_AT;
+
 /* What a card holds: BOVTRILA_SHOWN, or a cause. It changes nothing, and neither writes nor sends what waits. It has
    every touch that was settled over the same connection. */
 bovtrila_holding bovtrila_enquire(bovtrila_gate *gate, uint32_t card) BOVTRILA_LOOK_AT;
@@ -262,11 +338,16 @@ bovtrila_settlement bovtrila_settled(const bovtrila_gate *gate);
 /* How many more touches the file takes. */
 uint32_t bovtrila_room(const bovtrila_gate *gate);
 
-/* The errno of the last call of the system on the file or on a connection that failed since the gate was opened, for a
-   log; ETIMEDOUT where an answer was waited for in vain, EPROTO for BOVTRILA_STRAY, 0 where none failed. */
+/* The errno of the last call of the system on the files or on a connection that failed since the gate was opened, for a
+   log; ETIMEDOUT where an answer was waited for in vain, EPROTO for BOVTRILA_STRAY, EHOSTUNREACH where a host isn't known,
+   ECANCELED where a call was cancelled, 0 where none failed. */
 int bovtrila_last_error(const bovtrila_gate *gate);
 
-/* Words for a log: a text that stays, never NULL. */
+/* The version of the library, as "1.1.0". */
+const char *bovtrila_version(void);
+
+/* Words for a log: a text that stays, never NULL. A verdict that this version doesn't know is put in words as accepted or
+   refused. */
 const char *bovtrila_result_text(enum bovtrila_result result);
 const char *bovtrila_file_text(enum bovtrila_file_cause cause);
 const char *bovtrila_verdict_text(uint8_t verdict);

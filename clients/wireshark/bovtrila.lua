@@ -1,27 +1,56 @@
+-- SPDX-License-Identifier: Apache-2.0
 -- Shows what passes between gates and an account server of Bovtrila (docs/PROTOCOL.md): each field by its name,
 -- verdicts and faults in words, answers tied to their requests, repeats marked. clients/wireshark/README.md says how to
 -- install it.
 
-local PORT = 4014
+-- The server's port, and that of the TLS in front of it.
+local PORT, TLS_PORT = 4014, 4015
 
 local bovtrila = Proto("bovtrila", "Bovtrila")
 
+-- The lines between a comment `generated` and a comment `end` are made from the server's code: they aren't edited by hand.
 local KINDS = {
+    -- generated: kinds
     [0x01] = "Touch in", [0x02] = "Touch out", [0x03] = "Top-up", [0x04] = "Issue", [0x05] = "Enquiry",
     [0x06] = "Revision", [0x81] = "Reply", [0x85] = "Enquiry answer", [0xff] = "Fault",
+    -- end: kinds
 }
 -- The one length of each kind's body.
 local LENGTHS = {
+    -- generated: lengths
     [0x01] = 17, [0x02] = 17, [0x03] = 19, [0x04] = 15, [0x05] = 5, [0x06] = 51, [0x81] = 20, [0x85] = 14, [0xff] = 8,
+    -- end: lengths
 }
+-- The fields of each kind's body behind the kind, in their order, each with its bytes.
+local FIELDS = {
+    -- generated: fields
+    [0x01] = { { "gate", 2 }, { "number", 4 }, { "card", 4 }, { "station", 2 }, { "moment", 4 } },
+    [0x02] = { { "gate", 2 }, { "number", 4 }, { "card", 4 }, { "station", 2 }, { "moment", 4 } },
+    [0x03] = { { "gate", 2 }, { "number", 4 }, { "card", 4 }, { "pence", 4 }, { "moment", 4 } },
+    [0x04] = { { "gate", 2 }, { "number", 4 }, { "card", 4 }, { "moment", 4 } },
+    [0x05] = { { "card", 4 } },
+    [0x06] = { { "gate", 2 }, { "number", 4 }, { "card", 4 }, { "digest", 32 }, { "day", 4 }, { "moment", 4 } },
+    [0x81] = { { "gate", 2 }, { "number", 4 }, { "verdict", 1 }, { "change", 4 }, { "balance", 8 } },
+    [0x85] = { { "state", 1 }, { "balance", 8 }, { "front", 4 } },
+    [0xff] = { { "code", 1 }, { "gate", 2 }, { "number", 4 } },
+    -- end: fields
+}
+-- From this verdict on a touch is refused.
+-- generated: limits
+local FIRST_REFUSAL = 20
+-- end: limits
 local VERDICTS = {
+    -- generated: verdicts
     [1] = "Entered", [2] = "EnteredContinued", [3] = "EnteredOverOpen", [4] = "Exited", [5] = "ExitedUnstarted",
     [6] = "ExitedLate", [7] = "ToppedUp", [8] = "Issued", [9] = "Revised", [20] = "UnknownCard", [21] = "AlreadyIssued",
     [22] = "UnknownStation", [23] = "Backwards", [24] = "LowBalance", [25] = "BadAmount", [26] = "OverLimit",
     [27] = "BadDay",
+    -- end: verdicts
 }
 local FAULTS = {
+    -- generated: faults
     [1] = "BadFrame", [2] = "Conflict", [3] = "Halted", [4] = "Memory", [5] = "Full", [6] = "UnknownTable",
+    -- end: faults
 }
 local STATES = { [0] = "vacant", [1] = "outside", [2] = "inside" }
 
@@ -42,7 +71,7 @@ local fields = {
     balance = ProtoField.int64("bovtrila.balance", "Balance (pence)"),
     state = ProtoField.uint8("bovtrila.state", "State", base.DEC, STATES),
     front = ProtoField.uint32("bovtrila.front", "Front"),
-    fault = ProtoField.uint8("bovtrila.fault", "Fault", base.DEC, FAULTS),
+    code = ProtoField.uint8("bovtrila.fault", "Fault", base.DEC, FAULTS),
     bad = ProtoField.bytes("bovtrila.bad", "Bytes that begin no frame"),
     response_in = ProtoField.framenum("bovtrila.response_in", "Answer in", base.NONE, frametype.RESPONSE),
     response_to = ProtoField.framenum("bovtrila.response_to", "Request in", base.NONE, frametype.REQUEST),
@@ -65,19 +94,19 @@ local is_fault = ProtoExpert.new("bovtrila.is_fault", "The server answers by a f
                                  expert.severity.WARN)
 bovtrila.experts = { is_bad, is_repeat, is_other, is_fault }
 
-local stream_of = Field.new("tcp.stream")
-
 -- What was seen so far: the requests and the answers of each connection in their order, the first frame of each touch
--- by its gate and number, and what was found out of each frame by the packet and the place that it stands at.
+-- by its server, gate and number, and what was found out of each frame by the packet and the place that it stands at.
 local connections, touches, notes
 
 function bovtrila.init()
     connections, touches, notes = {}, {}, {}
 end
 
-local function connection_of()
-    local stream = stream_of()
-    local name = stream and stream.value or 0
+-- The connection of a packet, by both ends: the first pass over a capture has no tree, and so no field tcp.stream.
+local function connection_of(packet, is_request)
+    local source = string.format("%s %d", packet.src, packet.src_port)
+    local target = string.format("%s %d", packet.dst, packet.dst_port)
+    local name = is_request and source .. " " .. target or target .. " " .. source
     connections[name] = connections[name] or { requests = {}, answers = 0 }
     return connections[name]
 end
@@ -102,13 +131,14 @@ local function frame_at(buffer, at, is_request)
     return left >= 2 + length and 2 + length or 0
 end
 
--- Notes a request, once: answers come in the order of the requests, and a touch is known by its gate and number.
+-- Notes a request, once: answers come in the order of the requests, and a touch is known by its gate and number. Each
+-- server has touches of its own.
 local function note_request(frame, packet, is_frame)
-    local connection, note = connection_of(), { frame = packet.number, time = packet.rel_ts }
+    local connection, note = connection_of(packet, true), { frame = packet.number, time = packet.rel_ts }
     connection.requests[#connection.requests + 1] = note
-    local kind = is_frame and frame(2, 1):uint() or 0
-    if is_frame and kind ~= 0x05 then
-        local name, bytes = frame(3, 6):bytes():tohex(), frame:bytes():tohex()
+    if is_frame and FIELDS[frame(2, 1):uint()][1][1] == "gate" then
+        local name = string.format("%s %d %s", packet.dst, packet.dst_port, frame(3, 6):bytes():tohex())
+        local bytes = frame:bytes():tohex()
         local first = touches[name]
         if first == nil then
             touches[name] = { frame = packet.number, bytes = bytes }
@@ -121,7 +151,7 @@ end
 
 -- Notes an answer, once, and ties it to its request.
 local function note_answer(packet)
-    local connection = connection_of()
+    local connection = connection_of(packet, false)
     connection.answers = connection.answers + 1
     local request = connection.requests[connection.answers]
     if request == nil then
@@ -132,35 +162,40 @@ local function note_answer(packet)
     return { request = request.frame, after = NSTime.new(math.floor(after), math.floor(after % 1 * 1e9 + 0.5)) }
 end
 
--- Adds the fields of a touch from behind its card on, and says what it is about.
-local function add_act(frame, tree, kind)
-    local at, said = 13, ""
-    if kind <= 0x02 then
-        tree:add(fields.station, frame(at, 2))
-        said, at = " at " .. frame(at, 2):uint(), at + 2
-    elseif kind == 0x03 then
-        tree:add(fields.pence, frame(at, 4))
-        said, at = " by " .. frame(at, 4):uint(), at + 4
-    elseif kind == 0x06 then
-        tree:add(fields.digest, frame(at, 32))
-        tree:add(fields.day, frame(at + 32, 4))
-        said, at = " from day " .. frame(at + 32, 4):int(), at + 36
+-- Adds the fields of a frame behind its kind. Returns their bytes by their names.
+local function add_fields(frame, tree, kind)
+    local at, parts = 3, {}
+    for _, field in ipairs(FIELDS[kind]) do
+        local name, size = field[1], field[2]
+        parts[name] = frame(at, size)
+        tree:add(fields[name], parts[name])
+        if name == "verdict" then
+            tree:add(fields.accepted, parts[name], parts[name]:uint() < FIRST_REFUSAL):set_generated()
+        end
+        at = at + size
     end
-    tree:add(fields.moment, frame(at, 4))
-    return said
+    return parts
+end
+
+-- What a touch is about, in words.
+local function act_in_words(parts)
+    if parts.station then
+        return " at " .. parts.station:uint()
+    elseif parts.pence then
+        return " by " .. parts.pence:uint()
+    elseif parts.day then
+        return " from day " .. parts.day:int()
+    end
+    return ""
 end
 
 local function add_request(frame, tree, kind, note)
-    local said = KINDS[kind]
-    if kind == 0x05 then
-        tree:add(fields.card, frame(3, 4))
-        said = said .. " of card " .. frame(3, 4):uint()
+    local said, parts = KINDS[kind], add_fields(frame, tree, kind)
+    if parts.gate then
+        said = string.format("%s %d/%d: card %d%s", said, parts.gate:uint(), parts.number:uint(), parts.card:uint(),
+                             act_in_words(parts))
     else
-        tree:add(fields.gate, frame(3, 2))
-        tree:add(fields.number, frame(5, 4))
-        tree:add(fields.card, frame(9, 4))
-        said = string.format("%s %d/%d: card %d%s", said, frame(3, 2):uint(), frame(5, 4):uint(), frame(9, 4):uint(),
-                             add_act(frame, tree, kind))
+        said = said .. " of card " .. parts.card:uint()
     end
     if note.first and note.is_same then
         tree:add(fields.repeat_of, note.first):set_generated()
@@ -175,38 +210,32 @@ local function add_request(frame, tree, kind, note)
     return said
 end
 
-local function add_reply(frame, tree)
-    local verdict = frame(9, 1):uint()
-    tree:add(fields.gate, frame(3, 2))
-    tree:add(fields.number, frame(5, 4))
-    tree:add(fields.verdict, frame(9, 1))
-    tree:add(fields.accepted, frame(9, 1), verdict < 20):set_generated()
-    tree:add(fields.change, frame(10, 4))
-    tree:add(fields.balance, frame(14, 8))
-    return string.format("Reply %d/%d: %s, %d, %s", frame(3, 2):uint(), frame(5, 4):uint(),
-                         VERDICTS[verdict] or ("verdict " .. verdict), frame(10, 4):int(),
-                         tostring(frame(14, 8):int64()))
+local function reply_in_words(parts)
+    local verdict = parts.verdict:uint()
+    return string.format("Reply %d/%d: %s, %d, %s", parts.gate:uint(), parts.number:uint(),
+                         VERDICTS[verdict] or ("verdict " .. verdict), parts.change:int(), tostring(parts.balance:int64()))
 end
 
-local function add_holding(frame, tree)
-    local state = frame(3, 1):uint()
-    tree:add(fields.state, frame(3, 1))
-    tree:add(fields.balance, frame(4, 8))
-    tree:add(fields.front, frame(12, 4))
+local function holding_in_words(parts)
+    local state = parts.state:uint()
     return string.format("Enquiry answer: %s, %s, front %d", STATES[state] or ("state " .. state),
-                         tostring(frame(4, 8):int64()), frame(12, 4):uint())
+                         tostring(parts.balance:int64()), parts.front:uint())
 end
 
-local function add_fault(frame, tree)
-    local code = frame(3, 1):uint()
-    tree:add(fields.fault, frame(3, 1))
-    tree:add(fields.gate, frame(4, 2))
-    tree:add(fields.number, frame(6, 4))
-    tree:add_proto_expert_info(is_fault)
-    return string.format("Fault %s %d/%d", FAULTS[code] or code, frame(4, 2):uint(), frame(6, 4):uint())
+local function fault_in_words(parts)
+    local code = parts.code:uint()
+    return string.format("Fault %s %d/%d", FAULTS[code] or code, parts.gate:uint(), parts.number:uint())
 end
 
-local ANSWERS = { [0x81] = add_reply, [0x85] = add_holding, [0xff] = add_fault }
+local IN_WORDS = { [0x81] = reply_in_words, [0x85] = holding_in_words, [0xff] = fault_in_words }
+
+local function add_answer(frame, tree, kind)
+    local parts = add_fields(frame, tree, kind)
+    if parts.code then
+        tree:add_proto_expert_info(is_fault)
+    end
+    return IN_WORDS[kind] and IN_WORDS[kind](parts) or KINDS[kind]
+end
 
 -- What was noted of the frame that ends in this packet, as the count-th of it.
 local function noted(packet, count, make)
@@ -221,9 +250,9 @@ local function add_frame(frame, packet, root, count)
     tree:add(fields.length, frame(0, 2))
     tree:add(fields.kind, frame(2, 1))
     local said
-    if ANSWERS[kind] then
+    if kind >= 0x80 then
         local note = noted(packet, count, function() return note_answer(packet) end)
-        said = ANSWERS[kind](frame, tree)
+        said = add_answer(frame, tree, kind)
         if note.request then
             tree:add(fields.response_to, note.request):set_generated()
             tree:add(fields.response_time, note.after):set_generated()
@@ -248,29 +277,41 @@ local function add_bad(rest, packet, root, count, is_request)
     return "No frame"
 end
 
+-- How many frames of this packet were shown before: it may be dissected in parts, as a record of TLS each.
+local function shown_before(packet, more)
+    local before = tonumber(packet.private["bovtrila"] or "0")
+    packet.private["bovtrila"] = tostring(before + more)
+    return before
+end
+
 function bovtrila.dissector(buffer, packet, root)
-    local at, said = 0, {}
-    -- The port by which the packet was given to this dissector is the server's.
+    local at, said, before = 0, {}, shown_before(packet, 0)
+    -- The port by which the packet was given to this dissector is the server's, also below TLS.
     local is_request = packet.dst_port == packet.match_uint
     packet.cols.protocol = "Bovtrila"
     while at < buffer:len() do
         local size = frame_at(buffer, at, is_request)
         if size == nil then
-            said[#said + 1] = add_bad(buffer(at), packet, root, #said, is_request)
+            said[#said + 1] = add_bad(buffer(at), packet, root, before + #said, is_request)
             at = buffer:len()
         elseif size == 0 then
             packet.desegment_offset = at
             packet.desegment_len = DESEGMENT_ONE_MORE_SEGMENT
             break
         else
-            said[#said + 1] = add_frame(buffer(at, size), packet, root, #said)
+            said[#said + 1] = add_frame(buffer(at, size), packet, root, before + #said)
             at = at + size
         end
     end
-    if #said > 0 then
+    shown_before(packet, #said)
+    if #said > 0 and before > 0 then
+        packet.cols.info:append("; " .. table.concat(said, "; "))
+    elseif #said > 0 then
         packet.cols.info = table.concat(said, "; ")
     end
     return buffer:len()
 end
 
 DissectorTable.get("tcp.port"):add(PORT, bovtrila)
+DissectorTable.get("tcp.port"):add(TLS_PORT, Dissector.get("tls"))
+DissectorTable.get("tls.port"):add(TLS_PORT, bovtrila)

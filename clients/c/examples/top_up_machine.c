@@ -1,3 +1,4 @@
+/* SPDX-License-Identifier: Apache-2.0 */
 /* A top-up machine: shows what a card holds, and pays in what was put into its slot.
 
        top_up_machine --create FILE GATE CAPACITY          once, where the machine is installed
@@ -22,7 +23,7 @@ static void show_balance(bovtrila_gate *gate, uint32_t card)
 }
 
 /* What becomes of the money by the answer to a top-up. */
-static void end(bovtrila_answer answer)
+static void end(bovtrila_gate *gate, bovtrila_answer answer)
 {
     if (answer.result == BOVTRILA_ACCEPTED)
         printf("kept: the card holds %lld\n", (long long)answer.balance);
@@ -33,9 +34,12 @@ static void end(bovtrila_answer answer)
     else
         printf("given back: %s\n", bovtrila_result_text(answer.result));
     fflush(stdout);
+    if (answer.result == BOVTRILA_ACCEPTED || answer.result == BOVTRILA_REFUSED)
+        bovtrila_done(gate); /* so that no later start takes what was given back for a debt */
 }
 
-/* A top-up that was promised for later is settled before the next: a refusal is told to the staff, who owe it. */
+/* A top-up that was promised for later is settled before the next: a refusal is told to the staff, who owe it. Where the
+   power went between the money's return and the mark, a top-up may be told that is owed no more. */
 static int settle(bovtrila_gate *gate)
 {
     bovtrila_answer answer = bovtrila_resend(gate);
@@ -43,8 +47,12 @@ static int settle(bovtrila_gate *gate)
     if (answer.result == BOVTRILA_REFUSED) {
         bovtrila_touch touch = bovtrila_settled(gate).touch;
         printf("owed: card %lu, %lu pence\n", (unsigned long)touch.card, (unsigned long)touch.pence);
+        fflush(stdout);
     }
-    return !bovtrila_waiting(gate, NULL);
+    int is_settled = !bovtrila_waiting(gate, NULL);
+    if (is_settled)
+        bovtrila_done(gate);
+    return is_settled;
 }
 
 int main(int argc, char **argv)
@@ -57,6 +65,7 @@ int main(int argc, char **argv)
         return bovtrila_create(argv[2], (uint16_t)atoi(argv[3]), (uint32_t)atol(argv[4])).cause != BOVTRILA_FILE_OK;
     if (argc < 4)
         return 2;
+    options.size = sizeof options;
     options.file = argv[1];
     options.gate = (uint16_t)atoi(argv[2]);
     options.addresses = (const char *const *)argv + 3;
@@ -73,7 +82,7 @@ int main(int argc, char **argv)
             continue;
         }
         show_balance(gate, (uint32_t)card);
-        end(bovtrila_top_up(gate, (uint32_t)card, (uint32_t)pence, (uint32_t)time(NULL)));
+        end(gate, bovtrila_top_up(gate, (uint32_t)card, (uint32_t)pence, (uint32_t)time(NULL)));
     }
     bovtrila_close(gate);
     return 0;

@@ -1,21 +1,82 @@
+/* SPDX-License-Identifier: Apache-2.0 */
 /* A gate that is told on standard input what to ask, for scripts/tests/gate-library. It knows the library by its header
    alone.
 
        asker create FILE GATE CAPACITY
        asker open FILE GATE ADDRESS,.. LIMIT PATIENCE BACKOFF_FIRST BACKOFF_MOST
+       asker version                   the version of the library
        asker words                     the words for each code, of a verdict, a fault, a result and a file's cause
        asker null                      what every call answers to NULL
 
    A line asks one thing: "in CARD STATION MOMENT", "out CARD STATION MOMENT", "top-up CARD PENCE MOMENT",
-   "issue CARD MOMENT", "revise DIGEST DAY MOMENT", "enquire CARD", "resend", "waiting", "settled", "room", "error".
-   With lines of its own: "keep-in CARD STATION MOMENT" and so on for the other touches, "frame", and "hear DIGITS".
+   "issue CARD MOMENT", "revise DIGEST DAY MOMENT", "enquire CARD", "resend", "waiting", "settled", "room", "error",
+   "done", "cancel", "clear".
+   With lines of its own: "keep-in CARD STATION MOMENT" and so on for the other touches, "frame", and "hear DIGITS";
+   "enquiry CARD" and "hear-enquiry DIGITS".
    Each is answered by a line of numbers: of a touch "RESULT NUMBER VERDICT FAULT CHANGE BALANCE", of an enquiry "RESULT
-   STATE FAULT BALANCE FRONT". What create and open came to is a line "CAUSE PLACE ERROR". */
+   STATE FAULT BALANCE FRONT". What create and open came to is a line "CAUSE PLACE ERROR".
+   The signal USR1 cancels by its handler. After a line "watch" the signal USR2 cancels by a thread. */
+#define _POSIX_C_SOURCE 200809L
+#include <pthread.h>
+#include <signal.h>
 #include <stdio.h>
 #include <stdlib.h>
 #include <string.h>
 
 #include "bovtrila_gate.h"
+
+/* The gate, for what cancels, and the thread that does, where there is one. */
+static bovtrila_gate *open_gate;
+static pthread_t watcher;
+static int is_watched;
+
+static void cancel(int signal_number)
+{
+    (void)signal_number;
+    bovtrila_cancel(open_gate);
+}
+
+/* Has USR1 cancel what the gate waits for. A line that is read meanwhile is read on. */
+static int may_be_cancelled(bovtrila_gate *gate)
+{
+    struct sigaction action;
+
+    open_gate = gate;
+    memset(&action, 0, sizeof action);
+    action.sa_handler = cancel;
+    action.sa_flags = SA_RESTART;
+    return sigaction(SIGUSR1, &action, NULL) == 0;
+}
+
+/* Cancels at each USR2. */
+static void *cancel_all(void *signals)
+{
+    int came;
+
+    while (sigwait(signals, &came) == 0)
+        bovtrila_cancel(open_gate);
+    return NULL;
+}
+
+/* Cancels from now on by a thread: 1, or 0 where there is none. */
+static int watch(void)
+{
+    static sigset_t signals;
+
+    sigemptyset(&signals);
+    sigaddset(&signals, SIGUSR2);
+    is_watched = pthread_sigmask(SIG_BLOCK, &signals, NULL) == 0
+        && pthread_create(&watcher, NULL, cancel_all, &signals) == 0;
+    return is_watched;
+}
+
+/* Has nothing cancel any more, as it has to be before a gate is closed. */
+static void end_cancels(void)
+{
+    signal(SIGUSR1, SIG_IGN);
+    if (is_watched && pthread_cancel(watcher) == 0)
+        pthread_join(watcher, NULL);
+}
 
 static int tell_file(bovtrila_file file)
 {
@@ -95,29 +156,41 @@ static bovtrila_answer keep(bovtrila_gate *gate, const char *act, char **words)
     return bovtrila_ask(gate, &touch);
 }
 
-/* A line of the frame that waits, and one of what some bytes are heard as. */
-static void tell_frame(const bovtrila_gate *gate)
+/* A line of a frame: how many bytes it has, and its digits. */
+static void tell_frame(const uint8_t *frame, size_t size)
 {
-    uint8_t frame[BOVTRILA_FRAME_SIZE];
-    size_t size = bovtrila_frame(gate, frame);
-
     printf("%lu ", (unsigned long)size);
     for (size_t i = 0; i < size; i++)
         printf("%02x", frame[i]);
     printf("\n");
 }
 
-static bovtrila_answer hear(bovtrila_gate *gate, const char *digits)
+/* The frame that waits, or that of an enquiry about a card. */
+static void ask_frame(const bovtrila_gate *gate, char **words)
+{
+    uint8_t frame[BOVTRILA_FRAME_SIZE] = {0};
+
+    if (strcmp(words[0], "enquiry") == 0)
+        tell_frame(frame, bovtrila_enquiry(number(words[1]), frame));
+    else
+        tell_frame(frame, bovtrila_frame(gate, frame));
+}
+
+/* What the bytes of some digits are heard as. */
+static void hear(bovtrila_gate *gate, char **words)
 {
     /* So many bytes to their end, for the sanitizers. */
-    size_t size = strlen(digits) / 2;
+    size_t size = strlen(words[1]) / 2;
     uint8_t *bytes = malloc(size + (size == 0));
-    bovtrila_answer answer = {BOVTRILA_NOTHING, 0, 0, 0, 0, 0};
 
-    if (bytes != NULL)
-        answer = bovtrila_hear(gate, bytes, bytes_of(digits, bytes, size));
+    if (bytes == NULL)
+        return;
+    bytes_of(words[1], bytes, size);
+    if (strcmp(words[0], "hear-enquiry") == 0)
+        tell_holding(bovtrila_hear_enquiry(bytes, size));
+    else
+        tell(bovtrila_hear(gate, bytes, size));
     free(bytes);
-    return answer;
 }
 
 /* Every call with NULL: the results in a line. */
@@ -135,8 +208,11 @@ static void ask_nothing(void)
            bovtrila_open(&options, &gate).cause);
     printf("%d %d %d %lu %d ", bovtrila_open(&options, NULL).cause, bovtrila_waiting(NULL, NULL),
            bovtrila_settled(NULL).answer.result, (unsigned long)bovtrila_room(NULL), bovtrila_last_error(NULL));
-    printf("%d %lu %d\n", bovtrila_ask(NULL, NULL).result, (unsigned long)bovtrila_frame(NULL, NULL),
+    printf("%d %lu %d ", bovtrila_ask(NULL, NULL).result, (unsigned long)bovtrila_frame(NULL, NULL),
            bovtrila_hear(NULL, NULL, 0).result);
+    printf("%d %lu %d ", bovtrila_done(NULL), (unsigned long)bovtrila_enquiry(1, NULL),
+           bovtrila_hear_enquiry(NULL, 1).result);
+    printf("%d %d\n", bovtrila_cancel(NULL), bovtrila_clear_cancel(NULL));
 }
 
 /* The words for each code: a line each. */
@@ -147,10 +223,27 @@ static void tell_words(void)
                bovtrila_result_text((enum bovtrila_result)code), bovtrila_file_text((enum bovtrila_file_cause)code));
 }
 
+/* What a call that answers by one number comes to, or -1 where the word is none of these. */
+static long plain_number(bovtrila_gate *gate, const char *word)
+{
+    if (strcmp(word, "done") == 0)
+        return bovtrila_done(gate);
+    if (strcmp(word, "cancel") == 0)
+        return bovtrila_cancel(gate);
+    if (strcmp(word, "clear") == 0)
+        return bovtrila_clear_cancel(gate);
+    if (strcmp(word, "watch") == 0)
+        return watch();
+    if (strcmp(word, "room") == 0)
+        return (long)bovtrila_room(gate);
+    return strcmp(word, "error") == 0 ? bovtrila_last_error(gate) : -1;
+}
+
 /* Asks what a line says, and tells what it came to. */
 static void ask(bovtrila_gate *gate, char **words)
 {
     bovtrila_touch touch;
+    long plain;
 
     if (strcmp(words[0], "in") == 0)
         tell(bovtrila_touch_in(gate, number(words[1]), (uint16_t)number(words[2]), number(words[3])));
@@ -168,14 +261,12 @@ static void ask(bovtrila_gate *gate, char **words)
         tell(bovtrila_resend(gate));
     else if (strncmp(words[0], "keep-", 5) == 0)
         tell(keep(gate, words[0] + 5, words));
-    else if (strcmp(words[0], "frame") == 0)
-        tell_frame(gate);
-    else if (strcmp(words[0], "hear") == 0)
-        tell(hear(gate, words[1]));
-    else if (strcmp(words[0], "room") == 0)
-        printf("%lu\n", (unsigned long)bovtrila_room(gate));
-    else if (strcmp(words[0], "error") == 0)
-        printf("%d\n", bovtrila_last_error(gate));
+    else if (strcmp(words[0], "frame") == 0 || strcmp(words[0], "enquiry") == 0)
+        ask_frame(gate, words);
+    else if (strncmp(words[0], "hear", 4) == 0)
+        hear(gate, words);
+    else if ((plain = plain_number(gate, words[0])) >= 0)
+        printf("%ld\n", plain);
     else if (strcmp(words[0], "waiting") == 0 && bovtrila_waiting(gate, &touch))
         tell_touch(&touch);
     else if (strcmp(words[0], "settled") == 0) {
@@ -200,12 +291,15 @@ int main(int argc, char **argv)
     setvbuf(stdout, out, _IOFBF, sizeof out);
     if (argc == 5 && strcmp(argv[1], "create") == 0)
         return tell_file(bovtrila_create(argv[2], (uint16_t)number(argv[3]), number(argv[4])));
+    if (argc == 2 && strcmp(argv[1], "version") == 0)
+        printf("%s\n", bovtrila_version());
     if (argc == 2 && strcmp(argv[1], "words") == 0)
         tell_words();
     if (argc == 2 && strcmp(argv[1], "null") == 0)
         ask_nothing();
     if (argc != 9)
         return argc != 2;
+    options.size = sizeof options;
     options.file = argv[2];
     options.gate = (uint16_t)number(argv[3]);
     for (char *each = strtok(argv[4], ","); each != NULL && options.address_count < BOVTRILA_ADDRESSES;
@@ -216,7 +310,7 @@ int main(int argc, char **argv)
     options.patience = number(argv[6]);
     options.backoff_first = number(argv[7]);
     options.backoff_most = number(argv[8]);
-    if (tell_file(bovtrila_open(&options, &gate)))
+    if (tell_file(bovtrila_open(&options, &gate)) || !may_be_cancelled(gate))
         return 1;
     while (fgets(line, sizeof line, stdin) != NULL) {
         char *words[4] = {empty, empty, empty, empty};
@@ -225,6 +319,7 @@ int main(int argc, char **argv)
             words[count++] = each;
         ask(gate, words);
     }
+    end_cancels();
     bovtrila_close(gate);
     return 0;
 }

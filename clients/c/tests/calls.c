@@ -1,9 +1,12 @@
+/* SPDX-License-Identifier: Apache-2.0 */
 /* Stands before the C library (LD_PRELOAD), for scripts/tests/gate-library: it notes the calls of the system that the library
    for gates makes, refuses one, makes them fall short, or cuts the power in the middle of a write.
 
    CALLS_LOG=FD          a line for each call goes there
    CALLS_REFUSE=N        call N (from 1) isn't made, and answers an error; with CALLS_ONWARD=1 so does each later one of
                          its name
+   CALLS_ERROR=E         the errno of a refused call, in the place of its own
+   CALLS_UNKNOWN=N       the host later.test isn't known the first N times that it is looked up; it is 127.0.0.1 then
    CALLS_SHORT=1         reads, writes and what a connection moves, one byte at a time
    CALLS_INTERRUPT=1     each call that may be interrupted answers EINTR every other time
    CALLS_CUT=N:K         write N moves K bytes, and the process ends by status 9
@@ -12,6 +15,7 @@
 #include <dlfcn.h>
 #include <errno.h>
 #include <fcntl.h>
+#include <netdb.h>
 #include <poll.h>
 #include <stdarg.h>
 #include <stdint.h>
@@ -26,7 +30,7 @@ extern void *__libc_malloc(size_t size);
 extern void *__libc_calloc(size_t count, size_t size);
 extern void *__libc_realloc(void *old, size_t size);
 
-static int log_to = -1, refuse, onward, is_short, interrupts, cut_call, cut_bytes, kill_call;
+static int log_to = -1, refuse, onward, is_short, interrupts, cut_call, cut_bytes, kill_call, error_of, unknown;
 static int calls, writes, turn;
 static const char *refused_name;
 
@@ -46,6 +50,8 @@ __attribute__((constructor)) static void begin(void)
     is_short = number_of("CALLS_SHORT");
     interrupts = number_of("CALLS_INTERRUPT");
     kill_call = number_of("CALLS_KILL");
+    error_of = number_of("CALLS_ERROR");
+    unknown = number_of("CALLS_UNKNOWN");
     if (cut != NULL && sscanf(cut, "%d:%d", &cut_call, &cut_bytes) != 2)
         cut_call = 0;
     log_to = getenv("CALLS_LOG") == NULL ? -1 : number_of("CALLS_LOG");
@@ -75,7 +81,7 @@ static int is_refused(const char *name, int error)
     if (refuse != 0 && (at == refuse || (onward && refused_name != NULL && strcmp(name, refused_name) == 0))) {
         refused_name = name;
         note("refused", at, NULL, 0);
-        errno = error;
+        errno = error_of != 0 ? error_of : error;
         return 1;
     }
     return 0;
@@ -178,12 +184,32 @@ char *realpath(const char *path, char *into)
     return OWN(char *, "realpath", const char *, char *)(path, into);
 }
 
+int getaddrinfo(const char *host, const char *port, const struct addrinfo *hints, struct addrinfo **found)
+{
+    note("look-up", unknown, host, strlen(host));
+    if (strcmp(host, "later.test") == 0) {
+        if (unknown-- > 0)
+            return EAI_AGAIN;
+        host = "127.0.0.1";
+    }
+    return OWN(int, "getaddrinfo", const char *, const char *, const struct addrinfo *, struct addrinfo **)(
+        host, port, hints, found);
+}
+
 int socket(int family, int kind, int protocol)
 {
     if (is_refused("socket", EMFILE))
         return -1;
     note("socket", family, NULL, 0);
     return OWN(int, "socket", int, int, int)(family, kind, protocol);
+}
+
+int socketpair(int family, int kind, int protocol, int both[2])
+{
+    if (is_refused("socketpair", EMFILE))
+        return -1;
+    note("socketpair", family, NULL, 0);
+    return OWN(int, "socketpair", int, int, int, int *)(family, kind, protocol, both);
 }
 
 int setsockopt(int line, int level, int name, const void *value, socklen_t size)

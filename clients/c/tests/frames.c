@@ -1,3 +1,4 @@
+/* SPDX-License-Identifier: Apache-2.0 */
 /* What the library makes of frames, for scripts/tests/gate-library: its own functions, since a gate numbers its touches
    itself.
 

@@ -1,3 +1,4 @@
+/* SPDX-License-Identifier: Apache-2.0 */
 /* For clang's -fsanitize=fuzzer: any bytes as a gate's file, and any bytes as the answer to a request. */
 #include "../bovtrila_gate.c"
 
@@ -18,6 +19,7 @@ static void as_file(const uint8_t *bytes, size_t size)
     int file = open(path, O_RDWR | O_CREAT | O_TRUNC, 0600);
     if (file < 0 || size > sizeof left || pwrite(file, bytes, size, 0) != (ssize_t)size)
         abort();
+    options.size = sizeof options;
     options.file = path;
     options.gate = 7;
     options.addresses = addresses;

@@ -1,3 +1,4 @@
+/* SPDX-License-Identifier: Apache-2.0 */
 /* Opens a gate's file with each of its bytes changed to each other value, for scripts/tests/gate-library.
 
        openings FILE GATE COPY
@@ -41,6 +42,7 @@ int main(int argc, char **argv)
     fclose(from);
     if (write(copy, bytes, size) != (ssize_t)size)
         return 1;
+    options.size = sizeof options;
     options.file = argv[3];
     options.gate = (uint16_t)atoi(argv[2]);
     options.addresses = addresses;

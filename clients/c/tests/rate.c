@@ -1,3 +1,4 @@
+/* SPDX-License-Identifier: Apache-2.0 */
 /* Gates that ask by the library as fast as they are answered, a thread each.
 
        rate ADDRESS FOLDER touch|enquiry GATES REQUESTS SECONDS FIRST
@@ -115,6 +116,7 @@ static void begin(struct asking *one, const char *folder, const char *const *add
     snprintf(path, sizeof path, "%s/gate-%u", folder, number);
     want(bovtrila_create(path, number, asks_touches ? most + 1 : 1).cause == BOVTRILA_FILE_OK,
          "a gate's file can't be made");
+    options.size = sizeof options;
     options.file = path;
     options.gate = number;
     options.addresses = addresses;
