@@ -1,7 +1,9 @@
-"""The two databases that a network's touches are kept in: PostgreSQL, by its URL, and SQLite, by its file's name.
+# SPDX-License-Identifier: Apache-2.0
+"""The two databases that a network's touches are stored in: PostgreSQL, by a URL or a connection string of libpq, and
+SQLite, by its file's name.
 
-Both take one text of SQL (network/schema.sql, network/queries.sql), with parameters as `:name`. What they don't share
-stands here: how they are connected to, how a load holds off another, and how rows are copied.
+Both take one text of SQL (network/schema.sql, network/queries.sql), with parameters as `:name`. This module has what they
+don't share: how they are connected to, how a load holds off another, and how rows are copied.
 """
 import csv
 import datetime
@@ -9,9 +11,11 @@ import decimal
 import pathlib
 import re
 import sqlite3
+import tempfile
 
 try:
     import psycopg2
+    from psycopg2 import extensions
 except ImportError:
     # SQLite needs nothing but Python.
     psycopg2 = None
@@ -21,6 +25,16 @@ COLUMNS = ("journal", "place", "moment", "day", "gate", "number", "card", "act",
            "change", "balance")
 # Under which number PostgreSQL holds off whoever else makes the tables, and how long SQLite waits for another load.
 MAKING, PATIENCE = 4014, 3600
+# The version of network/schema.sql.
+VERSION = 4
+# The settings of a connection to PostgreSQL. The tables are in the schema bovtrila; those of an earlier version are in the
+# first schema that the user's own path has. PostgreSQL would compile a plan for each month's partition, which takes longer
+# than running the plan.
+SETTINGS = """
+SET TIME ZONE 'UTC';
+SET jit = off;
+SELECT set_config('search_path', concat_ws(', ', 'bovtrila', nullif(current_setting('search_path'), '')), false);
+"""
 # How a parameter stands in a statement.
 PARAMETER = r"(?<!:):([a-z_]+)"
 # How much of the rows is handed to COPY at a time, in characters.
@@ -39,9 +53,41 @@ class Database:
     def commit(self):
         self.connection.commit()
 
+    def rollback(self):
+        self.connection.rollback()
+
     def close(self):
         """Ends the connection; what wasn't committed is undone."""
         self.connection.close()
+
+    def version(self):
+        """The version of the tables, 0 where there are none."""
+        if not self.has("journals"):
+            return 0
+        return self.row("SELECT version FROM schema_version")["version"] if self.has("schema_version") else 1
+
+    def make_tables(self):
+        """Makes the tables where there are none, and commits them. Whoever finds none at the same time waits."""
+        if not self.has("journals"):
+            self.alone()
+            if not self.has("journals"):
+                self.run_file("schema.sql")
+                self.run_file("views.sql")
+            self.connection.commit()
+        self.fit()
+
+    def fit(self):
+        """Refuses tables of another version."""
+        version = self.version()
+        if version < VERSION:
+            raise Unfit(f"the database is of version {version}, and these programs need {VERSION}; migrate it: "
+                        "network/migrate --database ..")
+        if version > VERSION:
+            raise Unfit(f"the database is of version {version}, and these programs know {VERSION}; use newer ones")
+
+    def own(self, text):
+        """A text of SQL in the database's own words."""
+        return text
 
     def table(self, text, **values):
         """The names of the columns of a statement, and its rows."""
@@ -62,6 +108,9 @@ class Database:
 class Postgres(Database):
     """A database of PostgreSQL."""
 
+    # A moment as `history` writes it.
+    MOMENT = """to_char(moment AT TIME ZONE 'UTC', 'YYYY-MM-DD"T"HH24:MI:SS"Z"')"""
+
     def __init__(self, url):
         if psycopg2 is None:
             raise Unfit("PostgreSQL needs psycopg2: apt-get install python3-psycopg2")
@@ -70,33 +119,85 @@ class Postgres(Database):
         except psycopg2.Error as error:
             # The URL may have a password in it.
             raise Unfit(str(error).strip()) from None
-        self.connection.cursor().execute("SET TIME ZONE 'UTC'")
+        self.connection.cursor().execute(SETTINGS)
+        # A rollback would undo the settings.
+        self.connection.commit()
 
     def execute(self, text, **values):
         cursor = self.connection.cursor()
-        # Without values psycopg2 leaves the text as it is.
-        cursor.execute(re.sub(PARAMETER, r"%(\1)s", text.replace("%", "%%")) if values else text, values or None)
+        cursor.execute(self.marked(text, values), values or None)
         return cursor
 
-    def has_tables(self):
-        # By rows, and not by a name that may be remembered as unknown while another load makes the tables.
-        return self.row("SELECT count(*) AS found FROM pg_tables WHERE tablename = 'journals'"
-                        " AND schemaname = current_schema()")["found"] == 1
+    @staticmethod
+    def marked(text, values):
+        """A text with its parameters as psycopg2 marks them. Without values psycopg2 leaves the text as it is."""
+        return re.sub(PARAMETER, r"%(\1)s", text.replace("%", "%%")) if values else text
 
-    def make_tables(self):
-        """Makes the tables where there are none. Whoever finds none at the same time waits."""
-        if not self.has_tables():
-            self.execute("SELECT pg_advisory_xact_lock(:key)", key=MAKING)
-        if not self.has_tables():
-            self.connection.cursor().execute((HERE / "schema.sql").read_text())
+    def stream(self, text, **values):
+        """The names of the columns of a SELECT, and its rows one by one. The rows come by COPY, for which PostgreSQL uses
+        several processes; for a cursor that returns its rows in parts it uses one."""
+        text = text.rstrip().removesuffix(";")
+        cursor = self.execute(f"SELECT * FROM (\n{text}\n) AS answer LIMIT 0", **values)
+        names = [column.name for column in cursor.description]
+        casts = [extensions.string_types.get(column.type_code, extensions.UNICODE) for column in cursor.description]
+        file = self.copied(cursor.mogrify(self.marked(text, values), values or None).decode())
+        return names, self.typed(file, casts, cursor)
+
+    @staticmethod
+    def typed(file, casts, cursor):
+        """The rows of a file of comma-separated values, each field as psycopg2 reads its type. An empty field is NULL: no
+        column of the database has empty text."""
+        with file:
+            for row in csv.reader(file):
+                yield tuple(plain(cast(field or None, cursor)) for cast, field in zip(casts, row))
+
+    def has(self, table):
+        # By rows, and not by a name that may be remembered as unknown while another load makes the tables. Another
+        # application may have tables of the same names, but no fare tables beside them.
+        return self.row("SELECT count(*) AS found FROM pg_tables WHERE tablename = :table AND schemaname IN"
+                        " (SELECT schemaname FROM pg_tables WHERE tablename = 'fare_tables'"
+                        "  AND schemaname = ANY (current_schemas(false)))", table=table)["found"] > 0
+
+    def begin(self):
+        """Begins a transaction, which psycopg2 does by itself."""
+
+    def hold_off(self):
+        self.alone()
+
+    def alone(self):
+        """Waits for whoever makes or migrates the tables, and holds off others until the transaction's end."""
+        self.execute("SELECT pg_advisory_xact_lock(:key)", key=MAKING)
+
+    def run_file(self, name):
+        self.connection.cursor().execute((HERE / name).read_text())
 
     def lock(self, server):
-        """Waits for a load of the same server, and holds off the next one until the transaction's end."""
-        self.execute("SELECT pg_advisory_xact_lock(:key, hashtext(:server))", key=MAKING, server=server)
+        """Waits for a load of the same server, and holds off the next one until the connection's end."""
+        self.execute("SELECT pg_advisory_lock(:key, hashtext(:server))", key=MAKING, server=server)
+        self.connection.commit()
 
     def make_months(self, days):
+        """Makes the partitions of these days' months, and commits them: a load that made them as it goes on would hold up
+        the others."""
         for day in days:
             self.execute("SELECT make_month(:day)", day=day)
+        self.connection.commit()
+
+    def lines(self, text):
+        """What a SELECT gives, as lines of comma-separated values."""
+        with self.copied(text) as file:
+            yield from file
+
+    def copied(self, text):
+        """The rows of a SELECT in a file that has no name, as COPY writes them. The memory doesn't grow with the rows."""
+        try:
+            file = tempfile.TemporaryFile("w+", encoding="utf-8", newline="")
+            self.connection.cursor().copy_expert(f"COPY (\n{text}\n) TO STDOUT (FORMAT csv)", file)
+            file.seek(0)
+        except OSError as error:
+            raise Unfit(f"{tempfile.gettempdir()}: {error.strerror}; the answer is stored there: make space, or name another"
+                        " folder by TMPDIR") from None
+        return file
 
     def copy(self, lines):
         """Copies rows into `touches`, each a line of comma-separated values."""
@@ -123,6 +224,8 @@ class Pieces:
 class Sqlite(Database):
     """A database of SQLite, in one file."""
 
+    MOMENT = "moment"
+
     def __init__(self, path):
         try:
             # Transactions begin and end by what is written here alone.
@@ -134,23 +237,43 @@ class Sqlite(Database):
     def execute(self, text, **values):
         return self.connection.execute(text, values)
 
-    def has_tables(self):
-        return self.row("SELECT count(*) AS found FROM sqlite_master WHERE name = 'journals'")["found"] == 1
+    def stream(self, text, **values):
+        """The names of the columns of a SELECT, and its rows one by one."""
+        cursor = self.execute(text, **values)
+        return [column[0] for column in cursor.description], (tuple(map(plain, row)) for row in cursor)
 
-    def make_tables(self):
-        """Makes the tables where there are none, and begins the transaction: SQLite has one writer at a time. Whoever
-        reads goes on meanwhile."""
+    def has(self, table):
+        return self.row("SELECT count(*) AS found FROM sqlite_master WHERE name = :table", table=table)["found"] == 1
+
+    def begin(self):
+        self.execute("BEGIN IMMEDIATE")
+
+    def hold_off(self):
+        """The transaction holds off every other writer."""
+
+    def alone(self):
+        """Begins the transaction of a writer: SQLite has one at a time. Whoever reads goes on meanwhile."""
         self.execute("PRAGMA journal_mode = WAL")
         self.execute("BEGIN IMMEDIATE")
-        if not self.has_tables():
-            for statement in statements(of_sqlite((HERE / "schema.sql").read_text())):
-                self.execute(statement)
+
+    def run_file(self, name):
+        for statement in statements(of_sqlite((HERE / name).read_text())):
+            self.execute(statement)
+
+    def own(self, text):
+        return of_sqlite(text)
 
     def lock(self, server):
-        """The transaction holds off every other load."""
+        """Holds off every other load until the transaction's end."""
+        self.alone()
 
     def make_months(self, days):
         """SQLite has no partitions."""
+
+    def lines(self, text):
+        """What a SELECT gives, as lines of comma-separated values."""
+        for row in self.execute(text):
+            yield ",".join("" if field is None else str(field) for field in row) + "\n"
 
     def copy(self, lines):
         text = f"INSERT INTO touches ({', '.join(COLUMNS)}) VALUES ({', '.join('?' * len(COLUMNS))})"
@@ -186,20 +309,27 @@ def plain(value):
     return value
 
 
-def is_url(name):
-    return re.match(r"postgres(ql)?://", name) is not None
+def is_postgres(name):
+    """Whether a database's name is a URL of PostgreSQL, or a connection string as service=NAME. Another one is a file's."""
+    return re.match(r"postgres(ql)?://|\s*[a-z_]+\s*=", name) is not None
 
 
 def connect(name):
-    """The database of this name: a URL of PostgreSQL, or SQLite's file."""
-    return Postgres(name) if is_url(name) else Sqlite(name)
+    """The database of this name: a URL or a connection string of PostgreSQL, or SQLite's file."""
+    return Postgres(name) if is_postgres(name) else Sqlite(name)
+
+
+def existing(name):
+    """The same, which has to be there."""
+    if not is_postgres(name) and not pathlib.Path(name).is_file():
+        raise Unfit(f"{name}: no such file; network/load makes it, or name the database by --database")
+    return connect(name)
 
 
 def reading(name):
-    """The same, to be asked alone: it has to be there, with its tables."""
-    if not is_url(name) and not pathlib.Path(name).is_file():
-        raise Unfit(f"{name}: no such file; network/load makes it, or name the database by --database")
-    database = connect(name)
-    if not database.has_tables():
+    """The same, to be asked alone: with its tables, of this version."""
+    database = existing(name)
+    if not database.has("journals"):
         raise Unfit(f"{name}: nothing was loaded there yet (network/load)")
+    database.fit()
     return database

@@ -1,3 +1,4 @@
+# SPDX-License-Identifier: Apache-2.0
 """What bovtrila's commands say of a journal, for the scripts that stand above several of them.
 
 It needs nothing but Python and the program, so that a task of it can be sent to another machine.
@@ -12,6 +13,8 @@ import subprocess
 # touch's kind, the kind of a revision, and where its table's digest stands (docs/JOURNAL.md).
 HEADER, SLOTS, MARK = 64, {b"OYSTERJ1": 32, b"OYSTERJ2": 64}, b"\xa5"
 KIND, REVISION, DIGEST = 1, 6, slice(12, 44)
+# How many open slots crashes leave behind a journal's end at most.
+BEHIND = 2
 
 
 class Fault(Exception):
@@ -24,13 +27,26 @@ def found(name=None):
     return name or shutil.which("bovtrila") or str(here / "scripts" / "bovtrila")
 
 
+class Inherited(str):
+    """The path /dev/fd/N of an open file, which the program inherits."""
+
+    @property
+    def descriptor(self):
+        return int(self.rpartition("/")[2])
+
+
 def said(program, *words, output=subprocess.PIPE):
     """What a command wrote on its two outputs; a fault where its status is that of one."""
-    done = subprocess.run([program, *map(str, words)], stdin=subprocess.DEVNULL, stdout=output, stderr=subprocess.PIPE)
+    inherited = [word.descriptor for word in words if isinstance(word, Inherited)]
+    done = subprocess.run([program, *map(str, words)], stdin=subprocess.DEVNULL, stdout=output, stderr=subprocess.PIPE,
+                          pass_fds=inherited)
     told = done.stderr.decode(errors="replace")
-    # By 3 `verify` says that a journal is sound, and that more than one open slot stands behind its end.
+    # By 3 `verify` says that a journal is sound, and that more than two open slots stand behind its end.
     if done.returncode > 0 and done.returncode != 3:
-        raise Fault(told.strip().replace("\n  ", ": ") or f"{program} ended with status {done.returncode}")
+        line, _, more = told.strip().partition("\n  ")
+        # Where the second line only names a file, that is the one that was asked about.
+        known = not more or more in map(str, words)
+        raise Fault((line if known else f"{line}: {more}") or f"{program} ended with status {done.returncode}")
     if done.returncode < 0:
         raise Fault(f"{program} was ended by signal {-done.returncode}")
     return (done.stdout or b"").decode(), told
@@ -80,7 +96,7 @@ def verified(program, journal, tables, seal=None):
 
 
 def open_behind(facts):
-    """What is said of a journal where more than one open slot stands behind its end."""
+    """What is said of a journal where more than two open slots stand behind its end."""
     return f"{facts['behind']} open slots behind the end"
 
 
@@ -97,14 +113,54 @@ def balanced(program, journal, tables, touches):
     return {name: int(number) for name, number in re.findall(r"^([a-z_]+) (-?\d+)$", told, re.M)}
 
 
-def audited(program, journal, tables, seal=None):
-    """What an audit finds of a journal: what it holds, its seal and its sums, or the fault. It raises nothing."""
+def audited(program, journal, tables, server, seals):
+    """What an audit finds of a server's journal: what it holds, its seal and its sums, or the fault. `seals` has those of
+    each server. It raises nothing."""
     try:
-        facts = verified(program, journal, tables, seal)
-        if facts["behind"] > 1:
+        known = known_seal(journal, server, seals)
+        facts = verified(program, journal, tables, known and (known["touches"], known["seal"]))
+        if facts["behind"] > BEHIND:
             return {"fault": open_behind(facts)}
-        return {**facts, "sums": balanced(program, journal, tables, facts["touches"])}
+        return {**facts, "begins": beginning(journal), "behind_seal": known and [known["touches"], known["seal"]],
+                "sums": balanced(program, journal, tables, facts["touches"])}
     except Fault as fault:
         return {"fault": str(fault)}
     except OSError as error:
         return {"fault": error.strerror}
+
+
+def known_seal(journal, server, seals):
+    """The seal that a server's journal has to match, or None where none of them is of this journal."""
+    of_server = seals.get(server, [])
+    matching = [seal for seal in of_server if matches(journal, seal)]
+    if matching:
+        return max(matching, key=lambda seal: seal["touches"])
+    for other, of_other in seals.items():
+        for seal in of_other:
+            if other != server and seal["touches"] and matches(journal, seal):
+                raise Fault(f"it is the journal of {other}, as it was audited on {seal['audited']}")
+    # A seal that doesn't match is of this journal where both begin alike: then `verify` says how it was changed.
+    first = beginning(journal)
+    return next((seal for seal in reversed(of_server) if seal["begins"] in (first, None)), None)
+
+
+def matches(journal, seal):
+    """Whether a journal's first touches are those of a seal."""
+    size = slot_size(journal)
+    return size is not None and sealed(journal, HEADER + size * seal["touches"]) == seal["seal"]
+
+
+def beginning(journal):
+    """The digest of a journal's header and its first touch, or None where it has no touch."""
+    size = slot_size(journal)
+    with open(journal, "rb") as file:
+        content = file.read(HEADER + (size or 0))
+    if size is None or len(content) < HEADER + size or content[HEADER:HEADER + 1] != MARK:
+        return None
+    return hashlib.sha256(content).hexdigest()
+
+
+def slot_size(journal):
+    """The bytes of a journal's slots, by its format; None where the file is no journal."""
+    with open(journal, "rb") as file:
+        return SLOTS.get(file.read(9)[1:])

@@ -1,3 +1,4 @@
+# SPDX-License-Identifier: Apache-2.0
 """The queries of network/queries.sql, by their names."""
 import pathlib
 import re
@@ -23,4 +24,10 @@ def known():
 def ask(base, name, **values):
     """The names of a query's columns, and its rows; of the values it takes those that it needs."""
     query = known()[name]
-    return base.table(query.text, **{parameter: values[parameter] for parameter in query.wanted})
+    return base.table(base.own(query.text), **{parameter: values[parameter] for parameter in query.wanted})
+
+
+def stream(base, name, **values):
+    """The same, with the rows one by one."""
+    query = known()[name]
+    return base.stream(base.own(query.text), **{parameter: values[parameter] for parameter in query.wanted})

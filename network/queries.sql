@@ -1,28 +1,33 @@
--- The queries of network/query, in SQL that PostgreSQL and SQLite share. Each has a name, what it says, the indexes of
+-- SPDX-License-Identifier: Apache-2.0
+-- The queries of network/query, in SQL that PostgreSQL and SQLite share; what a comment that begins with sqlite has is for
+-- SQLite alone, and what is between the marks pg and end for PostgreSQL. Each has a name, what it says, the indexes of
 -- network/schema.sql that it goes by, and its parameters as :card, :first and :last (fare days) and :day_before (a moment).
 
 -- name: held
--- What a card of the network holds, on each server whose accounts have it.
--- indexes: touches_card
-SELECT card, station, server, server_card, state, balance, paid_in, charged
+-- What a card of the network holds, on each server whose accounts have it. The balance is transferred and paid_in less
+-- charged.
+-- indexes: balances_pkey
+SELECT card, station, server, server_card, state, balance, transferred, paid_in, charged
 FROM held
 WHERE server_card = :card - first_card + 1
 ORDER BY server;
 
 -- name: holdings
--- What each card of the network holds on all its servers together, and on how many of them it is inside. It reads all rows.
+-- What each card of the network holds on all its servers together, and on how many of them it is inside.
 -- indexes:
 SELECT card, count(*) AS servers, sum(CASE state WHEN 'inside' THEN 1 ELSE 0 END) AS inside, sum(balance) AS balance,
-       sum(paid_in) AS paid_in, sum(charged) AS charged
+       sum(transferred) AS transferred, sum(paid_in) AS paid_in, sum(charged) AS charged
 FROM held
 GROUP BY card
 ORDER BY card;
 
 -- name: journeys
--- The journeys that began, what was paid in and what was taken, less what was given back, by station and quarter of an hour.
+-- The journeys that began, what was paid in, what was transferred from the journal before, and what was taken, less what
+-- was given back, by station and quarter of an hour.
 -- indexes: touches_day
 SELECT station, quarter, sum(CASE WHEN verdict IN ('Entered', 'EnteredOverOpen') THEN 1 ELSE 0 END) AS journeys,
-       sum(CASE act WHEN 'top-up' THEN change ELSE 0 END) AS paid_in,
+       sum(CASE WHEN act = 'top-up' AND NOT transfer THEN change ELSE 0 END) AS paid_in,
+       sum(CASE WHEN transfer THEN change ELSE 0 END) AS transferred,
        -sum(CASE WHEN act IN ('in', 'out') THEN change ELSE 0 END) AS taken
 FROM history
 WHERE day BETWEEN :first AND :last AND accepted AND act <> 'revision'
@@ -41,7 +46,7 @@ ORDER BY station, server, gate, verdict;
 -- name: maxima
 -- The journeys that cost a maximum, by the touch that tells it (docs/AUDIT.md, "The report of a day"): what the touch in
 -- was charged, and what the touch out.
--- indexes: touches_day touches_card
+-- indexes: touches_maxima touches_card
 SELECT station, server, place, card, verdict, moment,
        CASE verdict WHEN 'ExitedUnstarted' THEN 0 ELSE -(
            SELECT entry.change FROM touches AS entry
@@ -89,20 +94,37 @@ ORDER BY first_day, digest, station, server;
 -- name: clocks
 -- The gates whose moments go back from one touch to the next: how often, and by how many seconds at most.
 -- indexes: touches_day
-SELECT station, server, gate, count(*) AS times, max(before - seconds) AS most_seconds, min(place) AS first_place
-FROM (SELECT station, server, gate, place, seconds,
-             lag(seconds) OVER (PARTITION BY journal, gate ORDER BY place) AS before
-      FROM history
-      WHERE day BETWEEN :first AND :last AND act <> 'revision') AS touched
-WHERE seconds < before
-GROUP BY station, server, gate
-ORDER BY station, server, gate;
-
--- name: violations
--- What breaks a promise across rows: there has to be nothing. It reads all rows.
--- indexes:
-SELECT servers.station, journals.server, journals.name AS journal, place, breach
-FROM violations
-JOIN journals ON journals.journal = violations.journal
+-- If moments go back between two touches of these days, they go back at a touch between the two as well, on whatever day
+-- that is. Gates whose moments never went back are therefore left out.
+SELECT station, servers.name AS server, gate, count(*) AS times,
+       max(/*pg*/ extract(epoch FROM before - moment)::bigint /*end*/
+           /*sqlite strftime('%s', before) - strftime('%s', moment) */) AS most_seconds, min(place) AS first_place
+FROM (SELECT journal, gate, place, moment, lag(moment) OVER (PARTITION BY journal, gate ORDER BY place) AS before
+      FROM touches
+      WHERE day BETWEEN :first AND :last AND act <> 'revision'
+          AND (journal /*sqlite + 0 */, gate) IN (SELECT journal, gate FROM gates WHERE stage = 'loaded' AND times_back > 0)) AS touched
+JOIN journals ON journals.journal = touched.journal
 JOIN servers ON servers.name = journals.server
-ORDER BY servers.station, journals.server, journals.name, place, breach;
+WHERE moment < before
+GROUP BY station, servers.name, gate
+ORDER BY station, servers.name, gate;
+
+-- name: freshness
+-- Each server with the moment of its last touch that was loaded, the moment of that load, and whether a touch of these fare
+-- days was loaded. network/query ends with status 3 if one has no touches.
+-- indexes: touches_day
+SELECT station, server, journal, last_touch, loaded,
+       CASE WHEN EXISTS (SELECT 1 FROM touches WHERE day BETWEEN :first AND :last AND act <> 'revision' AND journal /*sqlite + 0 */ IN (
+                             SELECT own.journal FROM journals AS own WHERE own.server = last_loads.server))
+           THEN 'has touches' ELSE 'no touches' END AS state
+FROM last_loads
+ORDER BY station, server;
+
+-- name: transfers
+-- Each closed journal with the one that follows it: what the cards held in the first, and what was transferred into the
+-- second. They differ by amounts above a balance limit, less what cards owed.
+-- indexes:
+SELECT servers.station, server, journal, followed_by, held, transferred, difference
+FROM transfers
+JOIN servers ON servers.name = transfers.server
+ORDER BY servers.station, server, journal;

@@ -1,10 +1,21 @@
+-- SPDX-License-Identifier: Apache-2.0
 -- The touches of a network's servers with their replies, as their journals have them (docs/NETWORK.md). The journals
 -- stay the truth: whatever stands here can be dropped and loaded again.
 --
--- This is PostgreSQL's text (psql -f network/schema.sql). network/load gives SQLite the same one, without what stands
--- between the marks pg and end, and with what the comments that begin with sqlite have.
+-- This is PostgreSQL's text (psql -f network/schema.sql -f network/views.sql). network/load gives SQLite the same one,
+-- without the parts between the marks pg and end, and with the contents of the comments that begin with sqlite. A change
+-- here needs a migration in network/migrations, and the next version.
 
 /*pg*/
+-- All of it is in a schema of its own, beside whatever else the database has.
+DO $$
+BEGIN
+    IF to_regnamespace('bovtrila') IS NULL THEN
+        CREATE SCHEMA bovtrila;
+    END IF;
+END $$;
+SET search_path = bovtrila, public;
+
 CREATE TYPE act AS ENUM ('in', 'out', 'top-up', 'issue', 'revision');
 -- The verdicts of docs/FARES.md, in the order of their codes.
 CREATE TYPE verdict AS ENUM (
@@ -12,6 +23,12 @@ CREATE TYPE verdict AS ENUM (
     'Revised', 'UnknownCard', 'AlreadyIssued', 'UnknownStation', 'Backwards', 'LowBalance', 'BadAmount', 'OverLimit',
     'BadDay');
 /*end*/
+
+-- The version of these tables, in one row.
+CREATE TABLE schema_version (
+    version integer NOT NULL
+);
+INSERT INTO schema_version (version) VALUES (4);
 
 CREATE TABLE stations (
     name text PRIMARY KEY CHECK (name <> '')
@@ -32,7 +49,9 @@ CREATE TABLE fare_tables (
 );
 
 -- digest is that of the first fare table, touches how many were loaded, and seal the digest of their bytes and the
--- header's (docs/AUDIT.md, "A seal"). A closed journal is one that another follows: its cards were carried over there.
+-- header's (docs/AUDIT.md, "A seal"). A closed journal is one that another follows: its balances were transferred there,
+-- by top-ups of the gate transfer_gate of the new journal. The first `checked` touches were checked by network/check, and
+-- `base` is the place that a check of everything begins with, above 0 after network/detach.
 CREATE TABLE journals (
     journal integer /*pg*/ GENERATED ALWAYS AS IDENTITY /*end*/ PRIMARY KEY,
     server text NOT NULL REFERENCES servers,
@@ -45,6 +64,9 @@ CREATE TABLE journals (
     seal text NOT NULL CHECK (length(seal) = 64),
     closed boolean NOT NULL DEFAULT false,
     loaded timestamp /*pg*/ with time zone /*end*/ NOT NULL DEFAULT CURRENT_TIMESTAMP,
+    transfer_gate integer NOT NULL DEFAULT 65535 CHECK (transfer_gate BETWEEN 0 AND 65535),
+    checked integer NOT NULL DEFAULT 0,
+    base integer NOT NULL DEFAULT 0,
     CHECK (touches BETWEEN 0 AND capacity),
     UNIQUE (server, name)
 );
@@ -100,121 +122,51 @@ CREATE TABLE touches (
     /*sqlite , PRIMARY KEY (journal, place), UNIQUE (journal, gate, number) */
 ) /*pg*/ PARTITION BY RANGE (day) /*end*/;
 
--- For the queries journeys, refusals, maxima, clocks and inside, and for network/report: the touches of some fare days.
-CREATE INDEX touches_day ON touches (day);
--- For the queries held and maxima: the touches of a card in their order.
+-- For the queries journeys, refusals, clocks, inside and freshness, and for network/report: the touches of some fare days.
+CREATE INDEX touches_day ON touches (day, journal);
+-- For the query maxima: the touches of a card in their order.
 CREATE INDEX touches_card ON touches (journal, card, place);
+-- For the query maxima: its touches of some fare days, and no others.
+CREATE INDEX touches_maxima ON touches (day) WHERE verdict IN ('EnteredOverOpen', 'ExitedUnstarted', 'ExitedLate');
 
 /*pg*/
--- Makes the partition of the month of a day, where there is none. Each has keys of its own: a place, and a gate's number,
--- stand once in it. A key over all partitions would have to name the day as well, and so promise neither; the view
--- `violations` finds what stands once in each of two months. To attach a table holds up nobody who reads or copies;
--- another load waits with its last step, the seal, until this one has committed.
-CREATE FUNCTION make_month(a_day date) RETURNS void LANGUAGE plpgsql AS $$
-DECLARE
-    first date := date_trunc('month', a_day);
-    later date := first + interval '1 month';
-    name text := 'touches_' || to_char(first, 'YYYY_MM');
-BEGIN
-    IF to_regclass(name) IS NULL THEN
-        LOCK TABLE touches IN SHARE UPDATE EXCLUSIVE MODE;
-    END IF;
-    IF to_regclass(name) IS NULL THEN
-        EXECUTE format('CREATE TABLE %I (LIKE touches INCLUDING CONSTRAINTS, CHECK (day >= %L AND day < %L),'
-                       ' PRIMARY KEY (journal, place), UNIQUE (journal, gate, number))', name, first, later);
-        EXECUTE format('ALTER TABLE touches ATTACH PARTITION %I FOR VALUES FROM (%L) TO (%L)', name, first, later);
-    END IF;
-END $$;
+-- The touches of days far from those of their load, as a gate with a wrong clock makes them: such a day makes no partition.
+CREATE TABLE touches_other (LIKE touches INCLUDING CONSTRAINTS, PRIMARY KEY (journal, place), UNIQUE (journal, gate, number));
+ALTER TABLE touches ATTACH PARTITION touches_other DEFAULT;
 /*end*/
 
--- Each touch with its server, and with what the queries below ask of it. `card` is the network's number, and server_card
--- the server's own. `quarter` is the quarter of an hour in which it was, and `seconds` the moment since 1970-01-01.
-CREATE VIEW history AS
-SELECT servers.station, servers.name AS server, servers.first_card, journals.closed, touches.journal, place, moment, day,
-       gate, number, first_card + card - 1 AS card, card AS server_card, act, station_number, pence, verdict, change,
-       balance,
-       verdict IN ('Entered', 'EnteredContinued', 'EnteredOverOpen', 'Exited', 'ExitedUnstarted', 'ExitedLate',
-                   'ToppedUp', 'Issued', 'Revised') AS accepted,
-       /*pg*/ date_bin('15 minutes', moment, TIMESTAMPTZ '1970-01-01 00:00:00Z') AS quarter,
-       extract(epoch FROM moment)::bigint AS seconds /*end*/
-       /*sqlite strftime('%Y-%m-%dT%H:%M:%SZ', strftime('%s', moment) / 900 * 900, 'unixepoch') AS quarter,
-       CAST(strftime('%s', moment) AS integer) AS seconds */
-FROM touches
-JOIN journals ON journals.journal = touches.journal
-JOIN servers ON servers.name = journals.server;
+-- What each issued card of a journal holds after a number of its touches: after those that were `loaded`, those that were
+-- `checked`, and those before the journal's `base` (`detached`). place is that of its last accepted touch, and the last two
+-- columns have its last accepted touch in or out. balance is transferred and paid_in less charged.
+CREATE TABLE balances (
+    journal integer NOT NULL REFERENCES journals,
+    stage text NOT NULL CHECK (stage IN ('loaded', 'checked', 'detached')),
+    card bigint NOT NULL,
+    place integer NOT NULL,
+    state text NOT NULL CHECK (state IN ('inside', 'outside')),
+    balance bigint NOT NULL,
+    transferred bigint NOT NULL,
+    paid_in bigint NOT NULL,
+    charged bigint NOT NULL,
+    travel_moment /*pg*/ timestamp with time zone /*end*/ /*sqlite text */,
+    travel_day /*pg*/ date /*end*/ /*sqlite text */,
+    PRIMARY KEY (journal, stage, card),
+    CHECK (balance = transferred + paid_in - charged)
+);
 
--- What each issued card holds in its server's open journal, as the command `balances` counts it.
-CREATE VIEW held AS
-SELECT station, server, first_card, card, server_card,
-       CASE WHEN max(CASE WHEN act = 'in' THEN place END) > coalesce(max(CASE WHEN act = 'out' THEN place END), -1)
-           THEN 'inside' ELSE 'outside' END AS state,
-       sum(change) AS balance,
-       sum(CASE WHEN act = 'top-up' THEN change ELSE 0 END) AS paid_in,
-       -sum(CASE WHEN act IN ('in', 'out') THEN change ELSE 0 END) AS charged
-FROM history
-WHERE accepted AND act <> 'revision' AND NOT closed
-GROUP BY station, server, first_card, card, server_card;
+-- Each gate of a journal after a number of its touches, by the stages of `balances`: the moment of its last touch, and how
+-- often the moment of a touch was before that of the gate's touch before. The query clocks reads the touches of those gates
+-- alone whose moments ever went back.
+CREATE TABLE gates (
+    journal integer NOT NULL REFERENCES journals,
+    stage text NOT NULL CHECK (stage IN ('loaded', 'checked', 'detached')),
+    gate integer NOT NULL CHECK (gate BETWEEN 0 AND 65535),
+    moment /*pg*/ timestamp with time zone /*end*/ /*sqlite text */ NOT NULL,
+    times_back integer NOT NULL CHECK (times_back >= 0),
+    PRIMARY KEY (journal, stage, gate)
+);
 
--- What breaks a promise of the account, or of the load, across rows; with the journal and the place where it has one. On
--- sound rows it is empty. It reads all rows.
-CREATE VIEW violations AS
-WITH
-counted AS (
-    SELECT journals.journal, journals.touches, count(place) AS rows_there
-    FROM journals LEFT JOIN touches ON touches.journal = journals.journal
-    GROUP BY journals.journal, journals.touches),
-placed AS (
-    SELECT journal, place, lag(place, 1, -1) OVER (PARTITION BY journal ORDER BY place) AS before FROM touches),
-carded AS (
-    SELECT touches.*, journals.cards,
-           sum(change) OVER (PARTITION BY touches.journal, card ORDER BY place ROWS UNBOUNDED PRECEDING) AS due,
-           count(CASE WHEN verdict = 'Issued' THEN 1 END)
-               OVER (PARTITION BY touches.journal, card ORDER BY place ROWS UNBOUNDED PRECEDING) AS issues
-    FROM touches JOIN journals ON journals.journal = touches.journal
-    WHERE act <> 'revision'),
-travelled AS (
-    SELECT journal, place, verdict, moment, day, lag(act) OVER cards AS last_act,
-           lag(moment) OVER cards AS last_moment, lag(day) OVER cards AS last_day
-    FROM touches
-    WHERE verdict IN ('Entered', 'EnteredContinued', 'EnteredOverOpen', 'Exited', 'ExitedUnstarted', 'ExitedLate')
-    WINDOW cards AS (PARTITION BY journal, card ORDER BY place)),
-revised AS (
-    SELECT journal, place, first_day, lag(first_day) OVER (PARTITION BY journal ORDER BY place) AS last_first_day,
-           (SELECT max(/*pg*/ touches.day - DATE '1970-01-01' /*end*/
-                       /*sqlite CAST(julianday(touches.day) - 2440587.5 AS integer) */)
-            FROM touches
-            WHERE touches.journal = revisions.journal AND touches.place < revisions.place
-                AND verdict IN ('Entered', 'EnteredContinued', 'EnteredOverOpen', 'Exited', 'ExitedUnstarted',
-                                'ExitedLate')) AS last_travel
-    FROM revisions WHERE verdict = 'Revised'),
-paired AS (
-    SELECT journal, place, min(side) AS sides, count(*) AS found, min(verdict) AS one, max(verdict) AS other
-    FROM (SELECT journal, place, verdict, 'revision' AS side FROM revisions
-          UNION ALL SELECT journal, place, verdict, 'touch' FROM touches WHERE act = 'revision') AS both_sides
-    GROUP BY journal, place)
-SELECT journal, CAST(NULL AS integer) AS place, 'the journal has another number of touches than was loaded' AS breach
-FROM counted WHERE touches <> rows_there
-UNION ALL
-SELECT journal, place, 'the place stands twice' FROM touches GROUP BY journal, place HAVING count(*) > 1
-UNION ALL
-SELECT journal, max(place), 'the gate and number stand twice' FROM touches GROUP BY journal, gate, number HAVING count(*) > 1
-UNION ALL
-SELECT journal, place, 'a place before this one is missing' FROM placed WHERE place > before + 1
-UNION ALL
-SELECT journal, place, 'the balance is not the sum of the changes' FROM carded WHERE balance <> due
-UNION ALL
-SELECT journal, place, 'a card was issued that the journal has not'
-FROM carded WHERE verdict = 'Issued' AND card NOT BETWEEN 1 AND cards
-UNION ALL
-SELECT journal, place, 'the verdict does not go with whether the card was issued' FROM carded
-WHERE CASE verdict WHEN 'Issued' THEN issues <> 1 WHEN 'UnknownCard' THEN issues <> 0 ELSE issues = 0 END
-UNION ALL
-SELECT journal, place, 'the verdict does not go with whether the card is inside' FROM travelled
-WHERE (coalesce(last_act, 'out') = 'in') <> (verdict IN ('EnteredOverOpen', 'Exited', 'ExitedLate'))
-UNION ALL
-SELECT journal, place, 'travel of the card goes back' FROM travelled WHERE moment < last_moment OR day < last_day
-UNION ALL
-SELECT journal, place, 'a revision counts from a day with travel, or not above the last one' FROM revised
-WHERE first_day <= last_first_day OR first_day <= last_travel
-UNION ALL
-SELECT journal, place, 'a revision and its touch do not go together' FROM paired WHERE found <> 2 OR one <> other;
+-- The months whose partitions network/detach has detached, each by its first day.
+CREATE TABLE detached_months (
+    month /*pg*/ date /*end*/ /*sqlite text */ PRIMARY KEY
+);
