@@ -1,7 +1,7 @@
-"""The command lines of the programs: each command of bovtrila, with what stands behind it, read from the tables of
-crates/command_line, and gate_send's, read from the calls that build it.
+"""The command lines of the programs: each command of bovtrila with its parameters, read from the tables of
+crates/command_line, and that of gate_send, read from the calls that build it.
 
-scripts/dev/completion makes completion for shells of them, and scripts/dev/man-pages what manual pages say of options.
+scripts/dev/completion makes the completion of shells from them, and scripts/dev/man-pages the options of manual pages.
 """
 import collections
 import pathlib
@@ -108,11 +108,6 @@ def commands(source=SOURCE):
                 listed = tuple(parameter(known, resolved(known, one)) for one in read["parameters"])
                 found[name] = Command(read["name"], read["about"], read["example"], listed)
     return [found[name] for name, _ in constants(source / "commands.rt")["COMMANDS"]]
-
-
-def version(source=SOURCE):
-    """The program's version."""
-    return constants(source / "commands.rt")["VERSION"].split("\n")[0]
 
 
 def about(source=SOURCE):

@@ -1,4 +1,4 @@
-"""Several servers on one disk, each with gates of its own: for scripts/dev/measure-serve."""
+"""Several servers on one disk, each with its own gates: for scripts/dev/measure-serve."""
 import collections
 import contextlib
 import os

@@ -1,9 +1,10 @@
-"""What a server's lock is held for, by the calls of the system that its threads make: for scripts/dev/measure-serve.
+"""How long threads of a server hold its lock, by the calls of the system that they make: for scripts/dev/measure-serve.
 
-perf notes when each call begins and ends. A touch takes its lock behind the call that brought the request, or behind
-that by which it waited for the lock. It makes the journal's four calls under the lock, and lets go before the next call:
-the one that wakes another thread, or the one that sends the answer. So what is between two calls is known of the program
-as it is. Noting a call takes time as well: the bare server, which does nothing between its calls, says how much."""
+perf records when each call begins and ends. A thread acquires the lock after the call that read the request, or after
+the call in which it waited for the lock. It makes the journal's four calls under the lock, and releases it before the
+next call: the one that wakes another thread, or the one that sends the answer. Therefore the time between two calls is
+known without a change of the program. Recording a call takes time too: the minimal server (bench/bare_server.c), which does
+nothing between its calls, shows how much."""
 import collections
 import os
 import re

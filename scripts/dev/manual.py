@@ -1,7 +1,7 @@
-"""Makes manual pages of Markdown, by pandoc: the sections of a text, and the page's text for man.
+"""Makes manual pages from Markdown, with pandoc: the sections of a text, and the page's text for man.
 
-Tables of a manual page have to be narrow. One of three columns or more with a single wide one stands there as lines; of
-another each row is a term, the first cell, with what the other cells say of it.
+Tables of a manual page must be narrow. A table of three columns or more with a single wide one becomes lines. In any
+other table each row becomes a term, the first cell, followed by the other cells.
 """
 import json
 import re

@@ -1,7 +1,7 @@
-"""What the measuring scripts share: their options, runs in turn, figures, and tables. They pass or fail nothing.
+"""Shared by the measuring scripts: their options, runs in turn, figures, and tables. They have no pass or fail.
 
-A table stands behind a line with its name, both where a script prints it and in docs/PERFORMANCE.md, where
-scripts/dev/measure-all puts what was printed."""
+A table follows a line with its name, both in a script's output and in docs/PERFORMANCE.md, into which
+scripts/dev/measure-all copies the output."""
 import argparse
 import re
 import statistics
@@ -27,8 +27,8 @@ def asked(text, parts, rounds=None, seconds=None, has_folder=False, builds=None)
     if has_folder:
         reader.add_argument("--folder", default="/var/tmp", help="a folder on a real disk (/var/tmp)")
         reader.add_argument("--realtime", action="store_true", help="before other programs (chrt -r 5), as root")
-    for flag, build in (builds or {}).items():
-        reader.add_argument(flag, help=f"a build in place of {build}")
+    for flag, what in (builds or {}).items():
+        reader.add_argument(flag, metavar="FILE", help=what)
     reader.add_argument("parts", nargs="*", metavar="PART", help=", ".join(parts))
     options = reader.parse_args()
     if wrong := [part for part in options.parts if part not in parts]:

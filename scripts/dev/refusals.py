@@ -1,19 +1,22 @@
-"""What a wrong body is, what the checker says of it, and whether it is refused for its reason.
+"""The form of a wrong body, the checker's output for it, and whether it is refused for its reason.
 
-A wrong body is a file crates/NAME/must-fail/EDIT.edit or crates/NAME/wrong-bodies/EDIT.edit, of lines that begin so:
+A wrong body is a file crates/NAME/must-fail/EDIT.edit or crates/NAME/wrong-bodies/EDIT.edit, with lines that begin so:
 
   file: src/writes.rt          the file that the lines below change
-  old: TEXT                    a text that stands there once
-  new: TEXT                    what stands in its place
-  right: TEXT                  what could stand there and keeps the promise, in the same form; behind its `new: `
-  refused by: FUNCTION.LABEL   the clause that is open for this body, as in docs/proofs/; several have a space between
+  old: TEXT                    a text that is in the file once
+  new: TEXT                    the text that replaces it
+  right: TEXT                  another replacement of the same form that keeps the promise; it follows its `new: `
+  answers: NAME.answers        a file in crates/NAME/right-answers/: the written answers of the changed function for the form
+                               of both bodies, if that isn't the form of the present body. Its name
+                               doesn't end in .antt, since rt refuses such a file that none of its checks reads
+  refused by: FUNCTION.LABEL   the clause that stays unproved for this body, as in docs/proofs/; spaces separate several
 
-Each has the last of these lines. FUNCTION is a function as docs/proofs/ names it, LABEL the label of a clause of it, or
-`ensures` for a clause without one. A function in an impl of a trait may name a clause of the trait's function, and what the
-impl says in a `ghost` member, as `From::from_gives`. The condition of a call, the invariant of a type and what a loop keeps
-or falls by are named by their goals: `Desk::learn.invariant_of-self`, `stream_length.frames-preserved`,
-`stream_length.frames-smaller`. `Examples.NAME` is what stands in proofs/Examples.antt under that name. `rt` reads the first
-three lines alone.
+Each has the last of these lines. FUNCTION is a function as docs/proofs/ names it, LABEL the label of one of its clauses, or
+`ensures` for a clause without one. A function in an impl of a trait may name a clause of the trait's function, and a
+`ghost` member of the impl, as `From::from_gives`. The precondition of a call, the invariant of a type, and the invariant or
+measure of a loop are named by their goals: `Desk::learn.invariant_of-self`, `stream_length.frames-preserved`,
+`stream_length.frames-smaller`. `Examples.NAME` is the example of that name in proofs/Examples.antt. `rt` reads only the
+first three lines.
 """
 import dataclasses
 import pathlib
@@ -28,6 +31,9 @@ VERDICT = re.compile(r"fn (?P<path>[^ ]+(?: as [^ ]+)?): (?P<said>.*)")
 # A step that an answer names isn't there; and what comes of something else that was refused.
 NAMES = re.compile(r"that can be named from here|has no field|is not in scope|has no `|\(nearest: ")
 FOLLOWS = re.compile(r"was rejected|not admitted|not checked")
+# Those that depend on a refused one, in one line: each with what it goes by way of, where that is another.
+DEPENDING = re.compile(r"\d+ declarations? that depends? on `(?P<lemma>[^`]+)`, which was rejected, (?:was|were) not checked: "
+                       r"(?P<names>.*)")
 ANSWER = re.compile(r"^pub (\S+) : goal\.", re.M)
 # What a loop keeps, from its start on, and by what it ends; behind it the way through the loop.
 LOOP = re.compile(r"(\S+?-(?:init|preserved|smaller))(?:-\S+)?")
@@ -36,6 +42,7 @@ CONDITION = re.compile(r"\S+-requires\b|invariant_of-|overflow_|\w*bounds-|div-"
 # What makes a step of a body, or a way through it: a call, and the words and signs that branch.
 STEP = re.compile(r"\b[a-z_]\w*!?(?=\()|\b(?:return|break|continue|if|match|while|for)\b|\?|&&|\|\|")
 PASSES = ("open", "answered")
+RIGHT_ANSWERS = "right-answers"
 
 
 @dataclasses.dataclass
@@ -46,6 +53,12 @@ class Edit:
     name: str
     named: list  # pairs of a function and a label
     changes: list  # [file, old, new, right or None]
+    answers: str | None = None  # the name of a file in right-answers/
+    answers_text: str | None = None  # what stands there, `None` where there is no such file
+
+    def digested(self):
+        """What a row in crates/tried.json of it rests on, beside the crate."""
+        return [*self.changes, *([[self.answers, self.answers_text]] if self.answers else [])]
 
     @property
     def has_right(self):
@@ -64,6 +77,10 @@ def read_edit(file):
         word, _, rest = line.partition(": ")
         if word == "refused by":
             edit.named += [(one.rpartition(".")[0], one.rpartition(".")[2]) for one in rest.split()]
+        elif word == "answers":
+            edit.answers = rest.strip()
+            answers = file.parent.parent / RIGHT_ANSWERS / edit.answers
+            edit.answers_text = answers.read_text() if answers.is_file() else None
         elif word == "file":
             path = rest.strip()
         elif word == "old":
@@ -148,6 +165,15 @@ def function_of(file):
     return "::".join(parts[:-1]) if parts[-1] in ("Answers", "Invariants", "Proof") else parts[-1]
 
 
+def refused(name, text):
+    """The declarations that an error is of, each with what is said of it."""
+    found = DEPENDING.fullmatch(text)
+    if not found:
+        return [(name, text)]
+    names = re.sub(r" \(via [^)]*\)", "", found["names"]).split(", ")
+    return [(one, f"it cites `{found['lemma']}`, which was rejected") for one in names]
+
+
 def read_told(out):
     """What a check said of each function, and of each file of lemmas, and the errors that keep it from being read.
 
@@ -159,7 +185,7 @@ def read_told(out):
             notes.add(found["alone"] or found["goal"] or found["what"])
         elif found := ERROR.fullmatch(line):
             if found["file"].startswith("proofs/"):
-                errors.append((function_of(found["file"]), found["name"], found["said"]))
+                errors += [(function_of(found["file"]), name, text) for name, text in refused(found["name"], found["said"])]
             else:
                 unread.append(line)
         elif found := VERDICT.fullmatch(line):

@@ -29,29 +29,36 @@ class Bench:
         self.folder = self.journals = pathlib.Path(self.holder.name)
         self.in_memory = tempfile.TemporaryDirectory(prefix="measure-serve-", dir=FAST) if FAST else self.holder
         self.memory = pathlib.Path(self.in_memory.name)
+        for name in ("bare_server", "load"):
+            self.build(name)
+
+    def build(self, name, *flags, to=None):
+        """Builds a program of bench/ in the folder, with further words for the compiler: its path."""
         compiler = next((name for name in ("cc", "gcc", "clang") if shutil.which(name)), None)
         if compiler is None:
             sys.exit("measure-serve: bench/ needs a C compiler (on Debian: apt-get install gcc libc6-dev)")
-        for name in ("bare_server", "load"):
-            source = TOP / "bench" / f"{name}.c"
-            subprocess.run([compiler, "-O2", "-pthread", "-o", self.folder / name, source], check=True)
+        built = self.folder / (to or name)
+        subprocess.run([compiler, "-O2", "-pthread", "-o", built, TOP / "bench" / f"{name}.c", *flags], check=True)
+        return built
 
     def places(self):
         """Has new journals on the disk, and then in memory, where there is a folder for that: the name of each place."""
         for name, self.journals in (("on a disk", self.folder), ("in memory", self.memory))[: 2 if FAST else 1]:
             yield name
 
-    def bovtrila(self, connections, cards=CARDS, capacity=CAPACITY, journal=None, before=(), revised=()):
+    def bovtrila(self, connections, cards=CARDS, capacity=CAPACITY, journal=None, before=(), revised=(),
+                 program=PROGRAM):
         """Starts Bovtrila's server for so many connections, on a new journal where none is given, with further tables."""
         if journal is None:
             journal = self.journals / "journal"
             journal.unlink(missing_ok=True)
         words = ["serve", "--table", EXAMPLE, "--journal", journal, "--cards", cards, "--capacity", capacity,
                  "--listen", "127.0.0.1:0", "--lines", connections, "--connections", 2, *revised]
-        return Server([*self.before, *before, PROGRAM, *words])
+        return Server([*self.before, *before, program, *words])
 
     def bare(self, connections, before=(), longer=0):
-        """Starts the bare server for so many connections, which holds its lock so many nanoseconds longer for a touch."""
+        """Starts the bare server for so many connections, which holds its lock so many nanoseconds longer for a touch, or writes
+        the next touch ahead where `longer` is "ahead"."""
         words = [self.folder / "bare_server", self.journals / "bare", connections, 2, longer]
         return Server([*self.before, *before, *words])
 

@@ -1,8 +1,9 @@
-"""What the scripts read in the sources: the functions of a text, the wrong bodies of a crate, and on what one rests.
+"""What the scripts read in the sources: the functions of a text, the wrong bodies of a crate, and their dependencies.
 
-crates/tried.json has a row for each wrong body that was tried, with a digest of what that rests on: the toolchain's
-logic, the wrong body's change, the crate's `src/`, `specs/` and `proofs/`, and of each library of the repository below
-it what another crate sees: `specs/`, and `src/` without bodies, comments and functions of its own. Tests don't count.
+crates/tried.json has a row for each wrong body that was tried, with a digest of everything that it depends on: the
+toolchain's logic, the wrong body's change, the crate's `src/`, `specs/` and `proofs/`, and of each library of the
+repository below it the parts that another crate sees: `specs/`, and `src/` without bodies, comments and private functions.
+Tests don't count.
 """
 import collections
 import dataclasses
@@ -288,7 +289,7 @@ def digest_of(base, changes):
 def digests(top, name):
     """The digest of each wrong body of the crate with its right one, whatever clause it names."""
     base = base_of(top, name)
-    return {edit.name: digest_of(base, edit.changes) for edit in refusals.edits_of(top, name)}
+    return {edit.name: digest_of(base, edit.digested()) for edit in refusals.edits_of(top, name)}
 
 
 def tried(top):

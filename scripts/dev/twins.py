@@ -1,8 +1,8 @@
-"""Twins: a wrong body beside the function that it is of, under a name of its own and with the same contract.
+"""Twins: a wrong body beside its function, under a separate name and with the same contract.
 
-One check tries many of them, several of one function too: each has a copy of the function's written answers. What isn't
-tried keeps its contract and loses its proof, so that a check spends nothing on it. A method in an impl of a trait has no
-twin, nor has a function whose proof is written as a whole: these are changed in their place.
+One check tries many of them, also several of one function: each has a copy of the function's written answers. Functions
+that aren't tried have their contracts and no proofs, so that a check spends no time on them. A method in an impl of a
+trait has no twin, and neither has a function whose proof is written as a whole: these are changed in their place.
 """
 import dataclasses
 import functools

@@ -1,0 +1,239 @@
+"""The facts that are compared and not generated: where the code has each, and where else it is written. The program's version
+is read in the file VERSION instead."""
+import collections.abc
+import dataclasses
+import pathlib
+
+import fact_frames
+import fact_regions
+import fact_texts
+from fact_code import Wrong
+from fact_places import Pair, Place, braces, section
+
+LUA = "clients/wireshark/bovtrila.lua"
+HEADER = "clients/c/bovtrila_gate.h"
+SOURCE = "clients/c/bovtrila_gate.c"
+IN_C = r'\[(?P<code>\d+)\] = "'
+IN_PYTHON = r'(?P<code>\d+): "(?P<name>\w+)"'
+IN_LUA = r'\[(?P<code>\w+)\] = "?(?P<name>\w+)'
+IN_PAGE = r"^\| (?P<code>\d+) \| (?P<name>\w+)"
+# The options whose limit is the command line's alone, with what the help says before it.
+OPTIONS = [("connections", "before it is done,"), ("idle", "for so many seconds,"), ("report", "each so many seconds,")]
+ACTS = ("in", "out", "top-up", "issue", "revision")
+ROWS = ("station", "single", "pair", "cap", "interchange")
+
+
+
+@dataclasses.dataclass
+class Read:
+    """A fact that is read of several places of the code: what they are, and how its pairs are read."""
+    files: str
+    all: collections.abc.Callable[[pathlib.Path], list[Pair]]
+
+
+def numbers_of(is_answer: bool) -> collections.abc.Callable[[pathlib.Path], list[Pair]]:
+    """How the numbers of the kinds of requests or of answers are read."""
+    return lambda top: [(kind.number, None) for kind in fact_frames.kinds(top) if kind.is_answer() == is_answer]
+
+
+def verdicts_of(word: str) -> collections.abc.Callable[[pathlib.Path], list[Pair]]:
+    """How the verdicts of an act are read."""
+    return lambda top: [(None, name) for act in fact_frames.acts(top) if act.word == word for name in act.accepted + act.refused]
+
+
+# Each fact: where the code has it, and where else it is written.
+FACTS: dict[str, tuple[Place | Read, list[Place]]] = {
+    "verdicts": (
+        Place("crates/oyster_account/src/verdict.rt", r"(?:Acceptance|Refusal)::(?P<name>\w+) => (?P<code>\d+),"), [
+            Place("crates/oyster_account/src/verdict.rt", r'(?P<code>\d+) => Some\("(?P<name>\w+)"\)'),
+            Place("docs/FARES.md", IN_PAGE, **section("Verdicts")),
+            Place("scripts/model.py", IN_PYTHON, **braces("VERDICTS =")),
+            Place("network/schema.sql", r"'(?P<name>\w+)'", r"CREATE TYPE verdict AS ENUM", r";"),
+        ]),
+    "faults of a session": (
+        Place("crates/gate_session/src/answer.rt", r"FaultCode::(?P<name>\w+) => (?P<code>\d+),"), [
+            Place("crates/tap_office/src/fault.rt", r"SubmitFault::(?P<name>\w+) => (?P<code>\d+),", some=True),
+        ]),
+    "faults of a fare table": (
+        Place("crates/fare_table/src/fault.rt", r'"fault table (?P<code>\d+) (?P<name>\w+)'), [
+            Place("docs/TABLE.md", r"^\| `fault table (?P<code>\d+) (?P<name>\w+)"),
+        ]),
+    "faults of a journal": (
+        Place("crates/tap_journal/src/fault.rt", r'"(?P<code>\d+) (?P<name>\w+)', r"^impl fmt::Display for JournalFault",
+              r"^\}"), [
+            Place("docs/*.md", r"^\| `fault journal (?P<code>\d+) (?P<name>\w+)", r"(?=^\| `fault journal 1 )",
+                  some=True),
+        ]),
+    "kinds of requests": (
+        Read("the definitions of frames", numbers_of(is_answer=False)), [
+            Place("scripts/model.py", r"(?P<code>\d+)", r"^ENTER, LEAVE, .* = ", r"$"),
+        ]),
+    "kinds of answers": (
+        Read("the definitions of frames", numbers_of(is_answer=True)), [
+            Place("scripts/model.py", r"0x(?P<hex>\w+)", r"^REPLY, .* = ", r"$"),
+        ]),
+    "lengths of requests": (
+        Place("crates/gate_session/src/frame.rt", r"const \w+_LENGTH: usize = (?P<code>\d+);"), [
+            Place("docs/PROTOCOL.md", r"(?P<code>\d+)", r"^\| the second is not ", r" \|"),
+        ]),
+    "acts of a history": (
+        Read("the definitions of a history's rows", lambda top: [(None, act.word) for act in fact_frames.acts(top)]), [
+            Place("scripts/model.py", r'"(?P<name>[\w-]+)"', **braces("ACTS =")),
+            Place("network/schema.sql", r"'(?P<name>[\w-]+)'", r"CREATE TYPE act AS ENUM", r";"),
+        ]),
+    **{f"verdicts of act {word}": (
+        Read("the definitions of verdicts", verdicts_of(word)), [
+            Place("network/schema.sql", r"'(?P<name>\w+)'", rf"WHEN '{word}' THEN verdict IN", r"\)"),
+        ]) for word in ACTS},
+    "touches that the library for gates sends": (
+        Place(HEADER, r"BOVTRILA_(?P<name>\w+) = \d+", r"^enum bovtrila_kind \{", r"^\};"), [
+            Place(SOURCE, r"case BOVTRILA_(?P<name>\w+):", r"^static size_t body_size\(", r"^\}"),
+            Place(SOURCE, r"BOVTRILA_(?P<name>\w+)", r"^static void write_touch\(", r"^\}", some=True),
+        ]),
+    "fields that the dissector shows": (
+        Place(LUA, r'\{ "(?P<name>\w+)", \d+ \}', r"^local FIELDS = \{", r"^\}"), [
+            Place(LUA, r"^ {4}(?P<name>\w+) = ProtoField", r"^local fields = \{", r"^\}", more=True),
+        ]),
+    "keys of a table": (
+        Place("crates/fare_table/src/key.rt", r'top_key\("(?P<name>\w+)"'), [
+            Place("docs/TABLE.md", r"(?:^\| |(?<=`, ))`(?P<name>\w+)`", r"^\| Key \|", r"^$"),
+        ]),
+    **{f"keys of a row of {name}": (
+        Place("crates/fare_table/src/key.rt", rf'row_key\(Key::{name.title()}, "(?P<name>\w+)"'), [
+            Place("docs/TABLE.md", rf"(?:^\| |(?<=`, ))`{name}\.(?P<name>\w+)`", r"^\| Key \|", r"^$"),
+        ]) for name in ROWS},
+    "keys that are compared": (
+        Place("crates/fare_table/src/key.rt", r"^ {4}(?P<name>[A-Z]\w+),$", r"^pub enum Key \{", r"^\}"), [
+            Place("crates/table_report/src/reading.rt", r"\bKey::(?P<name>[A-Z]\w+)"),
+        ]),
+    "the most touches of a history": (
+        Place("crates/oyster_account/src/card.rt", r"const HISTORY_LIMIT: u32 = (?P<code>[\d_]+);"), [
+            Place("crates/command_line/src/arguments.rt", r"const CAPACITY_LIMIT: u32 = (?P<code>[\d_]+);"),
+            Place("crates/command_line/src/commands/gates.rt", r"journal has room for, from 1 to (?P<code>\d+)"),
+            Place("crates/command_line/src/commands/audits.rt",
+                  r"(?:another capacity, from 1|first N touches, from 0|N from 0) to (?P<code>\d+)"),
+            Place("docs/COMMANDS.md", r"new journal has room for, 1 to (?P<code>\d+)"),
+            Place("docs/JOURNAL.md", r"capacity, in touches, 1 to (?P<code>[\d,]+)"),
+            Place("docs/GATE_LIBRARY.md", r"how many touches the gate may ask in its life, 1 to (?P<code>[\d,]+)"),
+            Place("docs/FARES.md", r"A history has at most (?P<code>[\d,]+)"),
+            Place("scripts/tests/clients.py", r"1 <= capacity <= (?P<code>[\d_]+)"),
+        ]),
+    "the most open slots that crashes leave": (
+        Place("crates/tap_journal/src/alone.rt", r"const BEHIND_LIMIT: u32 = (?P<code>\d+);"), [
+            Place("network/program.py", r"^BEHIND = (?P<code>\d+)$"),
+            Place("scripts/tests/audit", r"^BEHIND = (?P<code>\d+)$"),
+        ]),
+    "the most cards of a station": (
+        Place("crates/reply_book/src/book.rt", r"const CARD_LIMIT: u32 = (?P<code>[\d_]+);"), [
+            Place("crates/command_line/src/arguments.rt", r"const CARDS_LIMIT: u32 = (?P<code>[\d_]+);"),
+            Place("crates/command_line/src/commands/*.rt",
+                  r"(?:cards there are|number of cards|this card alone|journal was made), from 1 to (?P<code>\d+)"),
+            Place("docs/JOURNAL.md", r"number of cards, 1 to (?P<code>[\d,]+)"),
+            Place("docs/PROTOCOL.md", r"A server has at most (?P<code>[\d,]+) cards"),
+            Place("docs/NETWORK.md", r"A server has at most (?P<code>[\d,]+) cards"),
+            Place("scripts/tests/clients.py", r"1 <= cards <= (?P<code>[\d_]+)"),
+        ]),
+    "the most lines of a server": (
+        Place("crates/tap_office/src/opening.rt", r"const SEAT_LIMIT: u16 = (?P<code>\d+);"), [
+            Place("crates/command_line/src/arguments.rt", r"const LINES_LIMIT: u32 = (?P<code>\d+);"),
+            Place("crates/command_line/src/commands/gates.rt", r"served at once, from 1 to (?P<code>\d+)"),
+            Place("docs/COMMANDS.md", r"served at once, 1 to (?P<code>\d+)"),
+        ]),
+    **{f"the limit of --{option}": (
+        Place("crates/command_line/src/arguments.rt", rf"const {option.upper()}_LIMIT: u32 = (?P<code>[\d_]+);"), [
+            Place("crates/command_line/src/commands/gates.rt", rf"(?s:{told}.from 1.to (?P<code>\d+))"),
+            Place("docs/COMMANDS.md", rf"^\| `--{option} [A-Z]+` .*?, 1 to (?P<code>\d+)"),
+        ]) for option, told in OPTIONS},
+    "the most pence of a top-up": (
+        Place("crates/oyster_account/src/refusal.rt", r"const TOP_UP_LIMIT: u32 = (?P<code>[\d_]+);"), [
+            Place("docs/FARES.md", r"the amount is 0 or above (?P<code>[\d,]+)"),
+        ]),
+    "the highest balance limit of a table": (
+        Place("crates/fare_table/src/key.rt", r"const HIGHEST_BALANCE: u32 = (?P<code>[\d_]+);"), [
+            Place("docs/TABLE.md", r"`balance_limit` \| .* \| 1 to (?P<code>[\d,]+) \|"),
+        ]),
+    "the most tables of a station": (
+        Place("crates/fare_schedule/src/schedule.rt", r"const TABLE_LIMIT: usize = (?P<code>\d+);"), [
+            Place("docs/TABLE.md", r"`5 TooMany` \| (?P<code>\d+) tables are there"),
+            Place("scripts/model.py", r"^MOST_TABLES = (?P<code>\d+)"),
+        ]),
+    "the program's version": (
+        Place("VERSION", r"\A(?P<name>\d+\.\d+\.\d+)\n\Z"), [
+            Place("crates/command_line/src/commands.rt", r'^const VERSION: &str = "(?P<name>[\d.]+)$'),
+            Place("crates/command_tests/src/tests/of_command_line.rt", r'"bovtrila (?P<name>[\d.]+)\\nproved'),
+            Place("crates/gate_send/src/arguments.rt", r'^const VERSION: &str = "(?P<name>[\d.]+)$'),
+            Place("crates/gate_send/stdout", r"\Agate_send (?P<name>[\d.]+)$"),
+            Place("docs/VERSIONS.md", r"^Today's program is version \*\*(?P<name>[\d.]+)\*\*"),
+            Place("docs/VERSIONS.md", r"` (?P<name>[\d.]+)", r"^\| File ", r"$"),
+            Place("CHANGELOG.md", r"^## (?P<name>[\d.]+)", "", r"^New:|^Changed:|^Corrected:"),
+            Place("README.md", r"^Version (?P<name>[\d.]+) "),
+        ]),
+    "the journal's version": (
+        Place("crates/tap_journal/src/layout.rt", r"const VERSION: u8 = b'(?P<code>\d)';"), [
+            Place("docs/VERSIONS.md", r"^\| journal .*? \| (?P<code>\d), `OYSTERJ"),
+            Place("docs/VERSIONS.md", r"^\| a gate's file .*? \| (?P<code>\d), "),
+            Place("docs/VERSIONS.md", r"^\| journal `OYSTERJ(?P<code>\d)` \| yes"),
+            Place("scripts/model.py", r'^VERSION = b"OYSTERJ(?P<code>\d)"$'),
+            Place("clients/c/bovtrila_gate.c", r"VERSION = '(?P<code>\d)'"),
+        ]),
+    "the version of the library for gates": (
+        Place("clients/c/bovtrila_gate.h", r'^#define BOVTRILA_VERSION "(?P<name>[\d.]+)"$'), [
+            Place("docs/VERSIONS.md", r"^\| library for gates .*? \| (?P<name>[\d.]+), ABI"),
+        ]),
+    **{f"the {part} number of the library for gates": (
+        Place(HEADER, rf"^#define BOVTRILA_VERSION_{part.upper()} (?P<code>\d+)$"), [
+            Place(HEADER, rf'^#define BOVTRILA_VERSION "(?:\d+\.){{{place}}}(?P<code>\d+)[."]'),
+        ]) for place, part in enumerate(("major", "minor", "patch"))},
+    "the ABI of the library for gates": (
+        Place("clients/c/Makefile", r"^SONAME = (?P<name>\S+)$"), [
+            Place("docs/VERSIONS.md", r"^\| library for gates .*?, ABI `(?P<name>[^`]+)`"),
+        ]),
+    "the most caps of a table": (
+        Place("crates/fare_table/src/key.rt", r"const MOST_CAPS: usize = (?P<code>\d+);"), [
+            Place("docs/TABLE.md", r"`cap` \| list of tables \| no \| at most (?P<code>\d+) rows"),
+        ]),
+}
+
+
+def region_faults(top: pathlib.Path) -> collections.abc.Iterator[tuple[str, list[str]]]:
+    """For each file with regions that scripts/dev/facts writes, its name, and what scripts/dev/facts would change there."""
+    try:
+        for file, (old, new) in fact_regions.texts(top, fact_texts.regions(top)).items():
+            said = fact_regions.difference(file, old, new).splitlines()
+            yield f"regions: {file}", ["run scripts/dev/facts, which changes:", *said] if said else []
+    except Wrong as wrong:
+        yield "regions", [str(wrong)]
+
+
+def faults(top: pathlib.Path) -> collections.abc.Iterator[tuple[str, list[str]]]:
+    """For each fact in each place, its name, and what is wrong there, or nothing."""
+    yield from region_faults(top)
+    for fact, (origin, places) in FACTS.items():
+        try:
+            said = set(origin.all(top))
+        except Wrong as wrong:
+            yield f"{fact}: {origin.files}", [str(wrong)]
+            continue
+        if not said:
+            yield f"{fact}: {origin.files}", ["nothing found"]
+        for place in places:
+            found = list(place.parts(top))
+            if not found:
+                yield f"{fact}: {place.files}", ["nothing found"]
+            for file, text in found:
+                yield f"{fact}: {file}", list(differences(said, origin.files, place, text))
+
+
+def differences(said: set[Pair], origin: str, place: Place, text: str) -> collections.abc.Iterator[str]:
+    """What differs between the pairs of the origin and those of a place's text."""
+    has_code, has_name = "(?P<code>" in place.row or "(?P<hex>" in place.row, "(?P<name>" in place.row
+    wanted = {(code if has_code else None, name if has_name else None) for code, name in said}
+    found = set(place.read(text))
+    if not place.some:
+        yield from (f"lacks {in_words(pair)}" for pair in sorted(wanted - found, key=str))
+    if not place.more:
+        yield from (f"has {in_words(pair)}, which {origin} hasn't" for pair in sorted(found - wanted, key=str))
+
+
+def in_words(pair: Pair) -> str:
+    return " ".join(str(each) for each in pair if each is not None)
