@@ -1,26 +1,42 @@
+# SPDX-License-Identifier: Apache-2.0
 """The folder of a journal's copies and seals: how its files are named, and how old the newest are."""
 import datetime
 import math
 import re
 import time
 
-# A copy's name behind that of its journal: the moment at which it was begun.
+import model
+from wire import Wrong
+
+# A copy's name behind that of its journal: the moment at which it was begun. One that was refused has an ending more.
 MOMENT = "%Y%m%dT%H%M%SZ"
 NAMED = re.compile(r"(?P<journal>.+)-(?P<moment>\d{8}T\d{6}Z)$")
-# The file with a line for each seal: the moment, the copy's name, and the seal as `verify` writes it.
+REFUSED = ".refused"
+# The file with a line for each seal: the moment, the copy's name, and the seal as `verify` writes it. A line with
+# `restored` in place of `sealed` says that the journal was replaced by that copy, and has its touches from then on.
 SEALS = "seals"
+# The folder, in that of a server, of what is sent to another computer, and the file there with the last seal that was
+# compared.
+REMOTE, SENT = "remote", "sent"
+SEALED = re.compile(r"(\d{8}T\d{6}Z) (\S+) (?:sealed|restored) (\d{1,7}) ([0-9a-f]{64})")
 
 
 def moment_of(text):
     """The seconds since 1970 of such a moment."""
-    return datetime.datetime.strptime(text, MOMENT).replace(tzinfo=datetime.timezone.utc).timestamp()
+    parts = [int(text[at:at + size]) for at, size in ((0, 4), (4, 2), (6, 2), (9, 2), (11, 2), (13, 2))]
+    return datetime.datetime(*parts, tzinfo=datetime.timezone.utc).timestamp()
 
 
-def kept(folder):
-    """The copies of a folder with their moments, the oldest first."""
+def text_of(moment):
+    """Such a moment in a file's name."""
+    return time.strftime(MOMENT, time.gmtime(moment))
+
+
+def kept(folder, ending=""):
+    """The copies of a folder with their moments, the oldest first; with an ending those that have it."""
     found = []
     for path in folder.iterdir():
-        match = NAMED.fullmatch(path.name)
+        match = path.name.endswith(ending) and NAMED.fullmatch(path.name.removesuffix(ending))
         if match and path.is_file():
             try:
                 found.append((moment_of(match["moment"]), path))
@@ -29,22 +45,62 @@ def kept(folder):
     return sorted(found)
 
 
-def seals(folder):
-    """The lines of the seals of a folder, the oldest first: moment, copy, number of touches and digest."""
+def journal_of(path):
+    """The name of the journal that a file is a copy of, by its own name; nothing where it says none."""
+    match = NAMED.fullmatch(path.name)
+    return match["journal"] if match else None
+
+
+def whole(size):
+    """How many bytes the header and the whole slots are of a file of this size."""
+    return size if size < model.HEADER else model.HEADER + (size - model.HEADER) // model.SLOT * model.SLOT
+
+
+def seals(folder, name=SEALS):
+    """The lines of the seals of a folder, the oldest first: moment, copy, number of touches and digest. A file that
+    isn't there has none; one that can't be read, or has another line, is `Wrong`."""
+    path = folder / name
     try:
-        lines = (folder / SEALS).read_text().splitlines()
-    except OSError:
+        lines = path.read_text().splitlines()
+    except FileNotFoundError:
         return []
-    rows = [line.split() for line in lines]
-    return [(row[0], row[1], int(row[3]), row[4]) for row in rows if len(row) == 5 and row[2] == "sealed"]
+    except (OSError, UnicodeDecodeError) as error:
+        raise Wrong(f"{path}: {getattr(error, 'strerror', None) or error}") from None
+    found = []
+    for place, line in enumerate(lines, 1):
+        match = SEALED.fullmatch(line)
+        try:
+            moment_of(match[1])
+        except (TypeError, ValueError):
+            raise Wrong(f"{path}: line {place} is no seal: correct it by what was written down elsewhere") from None
+        found.append((match[1], match[2], int(match[3]), match[4]))
+    return found
 
 
 def ages(folder):
-    """How many seconds old the newest copy and the newest seal are; infinite where there is none."""
+    """How many seconds old the newest copy and the newest seal are; infinite where there is none. One from a moment
+    that is still to come, as of a clock that was ahead, isn't counted."""
+    now = time.time()
     try:
-        found = kept(folder)
+        made = [moment for moment, _ in kept(folder)]
     except OSError:
-        return math.inf, math.inf
-    sealed = seals(folder)
-    return (time.time() - found[-1][0] if found else math.inf,
-            time.time() - moment_of(sealed[-1][0]) if sealed else math.inf)
+        made = []
+    try:
+        sealed = [moment_of(moment) for moment, *_ in seals(folder)]
+    except Wrong:
+        sealed = []
+    return youngest(made, now), youngest(sealed, now)
+
+
+def youngest(moments, now):
+    """The age of the newest of these moments that has come."""
+    return min((now - moment for moment in moments if moment <= now), default=math.inf)
+
+
+def sent_age(folder):
+    """How many seconds ago the journal was read whose copy was verified on another computer last; infinite where none
+    was."""
+    try:
+        return youngest([moment_of(moment) for moment, *_ in seals(folder, SENT)], time.time())
+    except Wrong:
+        return math.inf

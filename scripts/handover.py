@@ -1,11 +1,15 @@
-"""What stands between an old journal and the one that follows it: the folder in which it is kept, what each card holds,
-which fare table counts, and the page at the end. For scripts/next-journal.
+# SPDX-License-Identifier: Apache-2.0
+"""The transfer from an old journal to the next one: the folder for its files, the balance of each card, the fare table in
+force, and the page at the end. For scripts/next-journal.
 """
+import contextlib
 import csv
 import datetime
+import fcntl
 import hashlib
 import io
 import json
+import os
 import shutil
 
 import model
@@ -22,6 +26,24 @@ INSIDE = ("the journey isn't carried, but the balance after its entry charge is.
           "charged a maximum beside it: pay back what is over the fare")
 DAYS = ("the days under way: what was charged on them doesn't count towards caps in the new journal, and no journey "
         "goes on at an interchange")
+
+
+@contextlib.contextmanager
+def at_work(folder, owner):
+    """The folder of a piece of work, made where it isn't there, in which no other run is at work."""
+    if owner.make(folder):
+        serving.sync(folder.parent)
+    held = os.open(folder, os.O_RDONLY)
+    try:
+        fcntl.flock(held, fcntl.LOCK_EX | fcntl.LOCK_NB)
+    except BlockingIOError:
+        raise Wrong(f"{folder}: another run is at work there") from None
+    try:
+        yield folder
+    finally:
+        os.close(held)
+        if not any(folder.iterdir()):
+            folder.rmdir()
 
 
 class Work:

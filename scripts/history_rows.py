@@ -1,3 +1,4 @@
+# SPDX-License-Identifier: Apache-2.0
 """The rows of a history in CSV, as `bovtrila history` writes them, for the scripts that read them: each is held against
 those before it. A file saved by a spreadsheet, with quotes around its fields, is read too."""
 import collections
@@ -10,23 +11,31 @@ import time
 
 HEADING = "place,moment,day,gate,number,card,act,station,pence,verdict,change,balance"
 NATURAL, WHOLE, DATE = "0|[1-9][0-9]{0,9}", "0|-?[1-9][0-9]{0,17}", "[0-9]{4}-[0-9]{2}-[0-9]{2}"
+# The lines between a comment `generated` and a comment `end` are made from the server's code: they aren't edited by hand.
+# generated: acts
+# Whether the fields card, station and pence are filled, by act.
+FILLED = {
+    "in": (True, True, False), "out": (True, True, False), "top-up": (True, False, True), "issue": (True, False, False),
+    "revision": (False, True, False),
+}
+# The verdicts of docs/FARES.md by act: those that accept it, and those that refuse it.
+ACCEPTED = {
+    "in": ("Entered", "EnteredContinued", "EnteredOverOpen"), "out": ("Exited", "ExitedUnstarted", "ExitedLate"),
+    "top-up": ("ToppedUp",), "issue": ("Issued",), "revision": ("Revised",),
+}
+REFUSED = {
+    "in": ("UnknownCard", "UnknownStation", "Backwards", "LowBalance"),
+    "out": ("UnknownCard", "UnknownStation", "Backwards"), "top-up": ("UnknownCard", "BadAmount", "OverLimit"),
+    "issue": ("UnknownCard", "AlreadyIssued"), "revision": ("BadDay",),
+}
+# end: acts
 # What each field of a row looks like. Only a revision's day may be a number, or lie before the year 0.
 FIELDS = {"place": NATURAL, "moment": f"{DATE}T[0-9]{{2}}:[0-9]{{2}}:[0-9]{{2}}Z",
           "day": f"{DATE}|-[0-9]{{6}}-[0-9]{{2}}-[0-9]{{2}}|{WHOLE}", "gate": NATURAL, "number": NATURAL,
-          "card": f"{NATURAL}|", "act": "in|out|top-up|issue|revision", "station": f"{NATURAL}|[0-9a-f]{{64}}|",
+          "card": f"{NATURAL}|", "act": "|".join(FILLED), "station": f"{NATURAL}|[0-9a-f]{{64}}|",
           "pence": f"{NATURAL}|", "verdict": "[A-Za-z]+", "change": WHOLE, "balance": WHOLE}
 ROW = re.compile(",".join(f"({form})" for form in FIELDS.values()))
 Row = collections.namedtuple("Row", FIELDS)
-# Whether the fields card, station and pence are filled, by act.
-FILLED = {"in": (True, True, False), "out": (True, True, False), "top-up": (True, False, True),
-          "issue": (True, False, False), "revision": (False, True, False)}
-# The verdicts of docs/FARES.md by act: those that accept it, and those that refuse it.
-ACCEPTED = {"in": ("Entered", "EnteredContinued", "EnteredOverOpen"),
-            "out": ("Exited", "ExitedUnstarted", "ExitedLate"), "top-up": ("ToppedUp",),
-            "issue": ("Issued",), "revision": ("Revised",)}
-REFUSED = {"in": ("UnknownCard", "UnknownStation", "Backwards", "LowBalance"),
-           "out": ("UnknownCard", "UnknownStation", "Backwards"), "top-up": ("UnknownCard", "BadAmount", "OverLimit"),
-           "issue": ("UnknownCard", "AlreadyIssued"), "revision": ("BadDay",)}
 # The verdicts of a touch of a card that was inside.
 ENDS_OPEN = ("EnteredOverOpen", "Exited", "ExitedLate")
 # How many seconds pass between two lines on how far the reading is.

@@ -1,3 +1,4 @@
+# SPDX-License-Identifier: Apache-2.0
 """How a page or a script of the repository reads where it is installed: it names what lies there by its name there."""
 import pathlib
 import re
@@ -5,6 +6,9 @@ import re
 TOP = pathlib.Path(__file__).resolve().parent.parent
 FILES = TOP / "packaging" / "files"
 SHARE = "/usr/share/bovtrila"
+# The scripts by which root runs a station's machine.
+ADMINISTRATION = {"authority", "exporter", "keep-copies", "new-fares", "next-journal", "receive-copy", "restore", "send-copy",
+                  "setup", "start"}
 # What a page says of the repository alone stands between two comments.
 OF_REPOSITORY = re.compile(r"^<!-- of the repository -->\n.*?^<!-- -->\n", re.M | re.S)
 
@@ -29,6 +33,11 @@ def is_command(file):
 def commands():
     """The names of the scripts that are called by their names."""
     return sorted(file.name for file, _ in rows() if is_command(file))
+
+
+def section(name):
+    """The section of the manual in which a script has its page: 8 where root runs the machine by it, else 1."""
+    return 8 if name in ADMINISTRATION else 1
 
 
 def names(text):

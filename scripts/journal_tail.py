@@ -1,3 +1,4 @@
+# SPDX-License-Identifier: Apache-2.0
 """How many touches a journal has, read on from where it was read to: for programs that look again and again."""
 import os
 import struct
@@ -14,9 +15,11 @@ class Tail:
 
     def __init__(self, path):
         self.path, self.header, self.touches, self.capacity, self.written = path, None, 0, 0, 0.0
+        self.slot = model.SLOT
 
-    def read(self):
-        """Reads what came since the last time. A file that is another journal now is read from its beginning."""
+    def read(self, known=0):
+        """Reads what came since the last time, or since so many touches that are known to be there. A file that is another
+        journal now is read from its beginning."""
         try:
             with open(self.path, "rb") as file:
                 header = file.read(model.HEADER)
@@ -24,12 +27,17 @@ class Tail:
                     raise Wrong(f"{self.path}: this is no journal")
                 status = os.fstat(file.fileno())
                 if (header, status.st_ino) != self.header:
-                    self.header, self.touches = (header, status.st_ino), 0
+                    self.header, self.touches = (header, status.st_ino), known
                 self.capacity, = struct.unpack(">I", header[9:13])
                 self.written = status.st_mtime
-                self.go_on(file, model.SLOTS[header[1:9]])
+                self.slot = model.SLOTS[header[1:9]]
+                self.go_on(file, self.slot)
         except OSError as error:
             raise Wrong(f"{self.path}: {error.strerror}") from None
+
+    def whole_size(self):
+        """How many bytes the file has once the journal is full: with a closed mark behind the last slot."""
+        return model.HEADER + self.slot * self.capacity + 1
 
     def go_on(self, file, size):
         """Counts the slots with an open mark, up to the first closed one."""

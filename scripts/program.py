@@ -1,5 +1,4 @@
-"""What a built program is made of, and whether it is built of the code as it stands, for scripts/bovtrila and
-scripts/dev/timed-ci."""
+"""The version of the programs, the sources of a built program, and whether it was built from the present code."""
 import hashlib
 import os
 import pathlib
@@ -7,6 +6,12 @@ import pathlib
 TOP = pathlib.Path(__file__).resolve().parent.parent
 CRATES = TOP / "crates"
 KINDS = (".rt", ".antt")
+
+
+def version():
+    """The version of the programs, which the file VERSION has alone. The programs have it in their code, where
+    scripts/dev/check-facts compares it with the file."""
+    return (TOP / "VERSION").read_text().strip()
 
 
 def code():

@@ -1,3 +1,4 @@
+# SPDX-License-Identifier: Apache-2.0
 """Connections through TLS, for the scripts that connect to a server: the option --tls, and a socket that it makes.
 
 The server's certificate has to be of the authority CA, and of the host that is connected to; the gate shows its own.
@@ -31,7 +32,7 @@ class Tls:
 
 def add_option(parser):
     parser.add_argument("--tls", metavar=("CA", "CERT", "KEY"), nargs=3,
-                        help="connect through TLS: the authority's certificate, the gate's own and its key")
+                        help="connect through TLS: the authority's certificate, the gate's certificate and its key")
 
 
 def tls_of(asked):

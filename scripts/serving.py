@@ -1,32 +1,25 @@
-"""What the scripts that run a station share: the program, the scripts beside them, the words of a server, and files
-that are written whole.
+# SPDX-License-Identifier: Apache-2.0
+"""What the scripts that run a station share: the program, the scripts beside them, a server's settings, owners, and
+files that are written whole.
 """
 import argparse
+import contextlib
 import fcntl
 import os
 import pathlib
 import pwd
 import re
-import shlex
 import shutil
+import stat
 import subprocess
 import sys
 
 import model
 import wire
+from settings import Words, words_of
 from wire import Wrong
 
 HERE = pathlib.Path(__file__).resolve().parent
-# The options of `serve` with a value behind them, and those without.
-VALUES = ("--table", "--journal", "--cards", "--capacity", "--listen", "--lines", "--connections", "--idle", "--report")
-FLAGS = ("--stay-halted", "--standby", "--strict")
-# The words of packaging/serve.conf but for its flags, which stand there before a station is set up.
-SAMPLE = ("--table first.toml --journal station.journal --cards 1000 --capacity 1000000 --listen 127.0.0.1:4014 "
-          "--lines 8")
-HEADING = """\
-# The words of the server behind `bovtrila serve` (man bovtrila-serve); paths are below {folder}.
-# Revised tables are the last words, and only ever grow: .. --lines 8 prices-2026.toml
-"""
 # What is put before a program, so that the system kills it when the script that started it dies.
 BESIDE = ["setpriv", "--pdeathsig", "KILL", "--"]
 
@@ -58,7 +51,7 @@ class Owner:
     """Whose files they are, and how the program is started as this user."""
 
     def __init__(self, name):
-        self.ids, self.start = None, {"umask": 0o027}
+        self.ids, self.name, self.start = None, name or "bovtrila", {"umask": 0o027}
         if os.geteuid() != 0:
             if name and name != pwd.getpwuid(os.geteuid()).pw_name:
                 raise Wrong(f"only root makes files of the user {name}")
@@ -81,9 +74,41 @@ class Owner:
         """Makes a folder of this user's, where it isn't there: whether it was made."""
         if folder.is_dir():
             return False
-        folder.mkdir(parents=True)
+        try:
+            folder.mkdir(parents=True)
+        except FileExistsError:
+            if not folder.is_dir():
+                raise
+            return False  # another run has made it meanwhile
         self.take(folder, 0o750)
         return True
+
+    def work_in(self, folder):
+        """Goes on as this user, in a folder that is made where it isn't there. What root has left in it becomes the
+        user's, and so does a folder of root's that lies in one of the user's."""
+        self.make(folder)
+        if not self.ids:
+            return
+        if folder.parent.stat().st_uid == self.ids[0]:
+            self.give(folder, stat.S_ISDIR)
+        for path in folder.iterdir():
+            self.give(path, stat.S_ISREG)
+        os.initgroups(pwd.getpwuid(self.ids[0]).pw_name, self.ids[1])
+        os.setgid(self.ids[1])
+        os.setuid(self.ids[0])
+        os.umask(self.start["umask"])
+        if not os.access(folder, os.W_OK | os.X_OK):
+            raise Wrong(f"{folder}: the user {self.name} may not write there: chown {self.name}: {folder}")
+
+    def give(self, path, is_such):
+        """Gives the user what root has of such a kind. A link, or one of several links of a file, stays root's."""
+        with contextlib.suppress(OSError):
+            opened = os.open(path, os.O_RDONLY | os.O_NOFOLLOW | os.O_NONBLOCK)
+            status = os.fstat(opened)
+            is_one = status.st_nlink == 1 or stat.S_ISDIR(status.st_mode)
+            if status.st_uid == 0 and is_one and is_such(status.st_mode):
+                os.fchown(opened, *self.ids)
+            os.close(opened)
 
 
 class Started:
@@ -113,65 +138,6 @@ class Started:
         self.process.stderr.close()
 
 
-class Words:
-    """The words behind `serve`."""
-
-    def __init__(self, words):
-        self.options, self.flags, self.revised = {}, [], []
-        words = list(words)
-        while words:
-            word = words.pop(0)
-            if word in VALUES and words:
-                self.options[word] = words.pop(0)
-            elif word in FLAGS:
-                self.flags.append(word)
-            elif word.startswith("-"):
-                raise Wrong(f"'{word}' is no word of serve that these scripts know")
-            else:
-                self.revised.append(word)
-        for needed in ("--table", "--journal", "--cards", "--capacity", "--listen", "--lines"):
-            if needed not in self.options:
-                raise Wrong(f"the words of serve lack {needed}")
-
-    def __str__(self):
-        return " ".join([f"{name} {self.options[name]}" for name in VALUES if name in self.options] + self.flags
-                        + self.revised)
-
-    def __eq__(self, other):
-        return str(self) == str(other)
-
-    def is_sample(self):
-        """Whether these are the words that come with the program."""
-        return Words(str(self).replace(" --strict", "").split()) == SAMPLE
-
-    def __getitem__(self, name):
-        return self.options[f"--{name}"]
-
-    def tables(self):
-        """The files of its tables, the first one first."""
-        return [self["table"], *self.revised]
-
-
-def words_of(path):
-    """The words of a server's file, as systemd reads it."""
-    try:
-        text = pathlib.Path(path).read_text()
-    except (OSError, UnicodeDecodeError) as error:
-        said = getattr(error, "strerror", None) or error
-        raise Wrong(f"{path}: {said}; name the file of the server's words") from None
-    found = None
-    for line in text.replace("\\\n", " ").splitlines():
-        name, is_set, value = line.strip().partition("=")
-        if is_set and name == "SERVE":
-            found = value
-    try:
-        if found is None:
-            raise Wrong("there is no line SERVE=..")
-        return Words(" ".join(shlex.split(found)).split())
-    except (Wrong, ValueError) as wrong:
-        raise Wrong(f"{path}: {wrong}") from None
-
-
 def whole(least, most):
     """What reads a number of the command line."""
     def read(text):
@@ -179,6 +145,13 @@ def whole(least, most):
             raise argparse.ArgumentTypeError(f"'{text}' is no number from {least} to {most}")
         return int(text)
     return read
+
+
+def fail(text):
+    """Ends with this text and status 1. Under systemd its lines are errors there."""
+    if "JOURNAL_STREAM" in os.environ:
+        text = "\n".join(f"<3>{line}" for line in text.split("\n"))
+    sys.exit(text)
 
 
 def has_server(journal):
@@ -216,6 +189,14 @@ def folder_of(asked, name):
 def config_of(asked, name):
     """The file of a server's words: the one that is asked for, or that of its unit."""
     return pathlib.Path(asked or f"/etc/bovtrila/{name or 'serve'}.conf").absolute()
+
+
+def names(folder="/etc/bovtrila"):
+    """The names of the servers of this machine: `None` is that of serve.conf, and each other one is that of its file of
+    words. stunnel's own configuration lies there too."""
+    found = {path.stem for path in pathlib.Path(folder).glob("*.conf")}
+    others = sorted(name for name in found if name != "serve" and not name.startswith("stunnel"))
+    return [None, *others] if "serve" in found else others
 
 
 def sync(path):

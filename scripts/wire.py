@@ -1,7 +1,8 @@
-"""What the scripts for makers of gates share: frames in words, connections, files of requests and of vectors.
+# SPDX-License-Identifier: Apache-2.0
+"""Shared by the scripts for gate manufacturers: frames in words, connections, files of requests and of vectors.
 
-A new kind of frame is an addition: a request's form goes into FORMS of scripts/model.py, an answer's length into
-ANSWERS, and a new code's words into VERDICTS or FAULTS.
+The lines between a comment `generated` and a comment `end` are generated from the server's code: don't edit them by hand.
+The model of a server, scripts/model.py, has tables of its own.
 """
 import argparse
 import collections
@@ -14,11 +15,31 @@ import model
 
 VECTORS = pathlib.Path(__file__).resolve().parent.parent / "docs" / "vectors.txt"
 
+# generated: frames
+# What each kind of request and of answer is called, and the fields and the form (struct) of its body.
+KINDS = {
+    0x01: "touch in", 0x02: "touch out", 0x03: "top-up", 0x04: "issue", 0x05: "enquiry", 0x06: "revision",
+}
+ANSWER_KINDS = {
+    0x81: "reply", 0x85: "enquiry answer", 0xff: "fault",
+}
+FIELDS = {
+    0x01: "gate number card station moment", 0x02: "gate number card station moment",
+    0x03: "gate number card pence moment", 0x04: "gate number card moment", 0x05: "card",
+    0x06: "gate number card digest day moment", 0x81: "gate number verdict change balance", 0x85: "state balance front",
+    0xff: "code gate number",
+}
+FORMS = {
+    0x01: ">BHIIHI", 0x02: ">BHIIHI", 0x03: ">BHIIII", 0x04: ">BHIII", 0x05: ">BI", 0x06: ">BHII32siI", 0x81: ">BHIBiq",
+    0x85: ">BBqI", 0xff: ">BBHI",
+}
+# end: frames
 # How many bytes the body of each kind has.
-REQUESTS = {kind: struct.calcsize(form) for kind, form in model.FORMS.items()}
-ANSWERS = {model.REPLY: 20, model.HOLDING: 14, model.FAULT: 8}
+REQUESTS = {kind: struct.calcsize(FORMS[kind]) for kind in KINDS}
+ANSWERS = {kind: struct.calcsize(FORMS[kind]) for kind in ANSWER_KINDS}
 
 VERDICTS = {
+    # generated: verdicts
     1: "in",
     2: "in, the journey goes on",
     3: "in, the last touch in was left open",
@@ -36,17 +57,26 @@ VERDICTS = {
     25: "refused: no such amount",
     26: "refused: above the balance limit",
     27: "refused: a day with travel, or not above the last revision's",
+    # end: verdicts
 }
-# A touch in or out opens the barrier by these verdicts, and by those below 20 that have no meaning yet.
+# From this verdict on a touch is refused.
+# generated: limits
+FIRST_REFUSAL = 20
+# end: limits
+# A touch in or out opens the barrier by these verdicts, and by those that accept and have no meaning yet.
+# generated: opening
 OPENING = (1, 2, 3, 4, 5, 6)
+# end: opening
 STATES = {0: "vacant", 1: "outside", 2: "inside"}
 FAULTS = {
+    # generated: faults
     1: "bad frame, the session ends",
     2: "conflict: the number stands for another touch",
     3: "halted: the station's disk has failed",
     4: "no memory, send it again",
     5: "full: the journal takes no new touch",
     6: "unknown table: the server wasn't started with it, and recorded nothing",
+    # end: faults
 }
 
 
@@ -90,7 +120,7 @@ def opens(request, answer):
         return False
     if name_of(answer) != request[3:9]:
         return False
-    return answer[9] in OPENING or answer[9] < 20 and answer[9] not in VERDICTS
+    return answer[9] in OPENING or answer[9] < FIRST_REFUSAL and answer[9] not in VERDICTS
 
 
 def in_words(request, answer):
@@ -107,23 +137,13 @@ def in_words(request, answer):
     return f"fault {answer[3]}: {FAULTS.get(answer[3], 'unknown')}"
 
 
-KINDS = {model.ENTER: "touch in", model.LEAVE: "touch out", model.TOP_UP: "top-up", model.ISSUE: "issue",
-         model.ENQUIRE: "enquiry", model.REVISE: "revision"}
-FIELDS = {model.ENTER: "gate number card station moment", model.LEAVE: "gate number card station moment",
-          model.TOP_UP: "gate number card pence moment", model.ISSUE: "gate number card moment",
-          model.REVISE: "gate number card digest day moment", model.ENQUIRE: "card",
-          model.REPLY: "gate number verdict change balance", model.HOLDING: "state balance front",
-          model.FAULT: "code gate number"}
-ANSWER_FORMS = {model.REPLY: ">BHIBiq", model.HOLDING: ">BBqI", model.FAULT: ">BBHI"}
-ANSWER_KINDS = {model.REPLY: "reply", model.HOLDING: "enquiry answer", model.FAULT: "fault"}
 # What a field's number stands for.
 MEANINGS = {"verdict": VERDICTS, "state": STATES, "code": FAULTS}
 
 
 def fields_of(frame):
     """The fields of a frame behind its kind, by their names."""
-    form = model.FORMS.get(frame[2]) or ANSWER_FORMS[frame[2]]
-    _, *values = struct.unpack(form, frame[2:])
+    _, *values = struct.unpack(FORMS[frame[2]], frame[2:])
     return dict(zip(FIELDS[frame[2]].split(), values, strict=True))
 
 

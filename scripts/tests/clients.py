@@ -1,4 +1,4 @@
-"""What scripts/tests/gate-library needs: the built programs of clients/c, a gate that is told what to ask, and readers of a
+"""For scripts/tests/gate-library: the built programs of clients/c, a gate that asks on request, and readers of a
 gate's file and of its calls, written from docs/GATE_LIBRARY.md and docs/JOURNAL.md."""
 import contextlib
 import functools
@@ -12,7 +12,6 @@ import socket
 import struct
 import subprocess
 import tempfile
-import threading
 import time
 import unittest
 
@@ -20,6 +19,7 @@ import harness
 import model
 import wire
 from harness import EXAMPLE, PROGRAM, TIME, TOP
+from listening import Door
 
 CLIENT = TOP / "clients" / "c"
 TESTS = CLIENT / "tests"
@@ -60,7 +60,9 @@ def numbers_of(kind, prefix=""):
 
 RESULT, CAUSE = numbers_of("result"), numbers_of("file_cause", "FILE_")
 REPLIES = RESULT["ACCEPTED"], RESULT["REFUSED"]
-WAITS = RESULT["NO_ANSWER"], RESULT["FAULT"], RESULT["STRAY"]
+# The same of a touch that was made before the gate was opened.
+EARLIER = RESULT["ACCEPTED_EARLIER"], RESULT["REFUSED"]
+WAITS = RESULT["NO_ANSWER"], RESULT["FAULT"], RESULT["STRAY"], RESULT["CANCELLED"]
 
 
 def built(to, sources, compiler="gcc", flags=("-O2",), include=CLIENT):
@@ -159,6 +161,11 @@ def told_by(answer, number):
     return [REPLIES[verdict >= 20], number, verdict, 0, change, balance]
 
 
+def earlier(told):
+    """What the gate says of the same reply, where the touch was made before the gate was opened."""
+    return [EARLIER[REPLIES.index(told[0])], *told[1:]]
+
+
 def worked_out(frames):
     """What a gate is told of these touches, the first ones of the example's server, by the model."""
     station = wire.vectors()[0].model()
@@ -172,24 +179,25 @@ class Careful:
     def __init__(self, frames):
         self.frames, self.replies, self.opens = frames, {}, []
 
-    def note(self, told):
+    def note(self, told, replies):
         """Keeps a reply. One that was told before has to be the same."""
-        first = self.replies.setdefault(told[1], told)
-        assert first == told, f"touch {told[1]} was answered by {first}, and then by {told}"
+        reply = [REPLIES[replies.index(told[0])], *told[1:]]
+        first = self.replies.setdefault(told[1], reply)
+        assert first == reply, f"touch {told[1]} was answered by {first}, and then by {told}"
         is_travel = self.frames[told[1] - 1][2] in (model.ENTER, model.LEAVE)
-        if first is told and is_travel and told[0] == RESULT["ACCEPTED"]:
+        if first is reply and is_travel and told[0] == RESULT["ACCEPTED"]:
             self.opens.append(told[1])
 
-    def settle(self, asker, told):
+    def settle(self, asker, told, replies=REPLIES):
         """Sends what waits again, until there is a reply. A server that is gone doesn't hold it up for good."""
         until = time.monotonic() + TIME
         while told[0] in WAITS:
             if time.monotonic() > until:
                 raise Gone(f"no reply within {TIME} seconds, and the gate says {told}")
             told = asker.ask("resend")
-        if told[0] not in REPLIES:
+        if told[0] not in replies:
             raise Gone(f"the gate says {told}")
-        self.note(told)
+        self.note(told, replies)
 
     def begin(self, asker):
         """Settles what waits after an opening: how many touches were asked."""
@@ -197,7 +205,7 @@ class Careful:
         waiting = asker.ask("waiting")
         if not waiting:
             return 0
-        self.settle(asker, asker.ask("resend"))
+        self.settle(asker, asker.ask("resend"), EARLIER)
         return waiting[1]
 
     def run(self, asker, ask=None):
@@ -340,10 +348,9 @@ class GateTest(unittest.TestCase):
         return model.journal((self.folder / name).read_bytes(), table, cards)[0]
 
     def planted(self):
-        """A server over the model. It listens to the test's end: a thread that was about to accept would take the next
-        server's connections by a descriptor that was given anew."""
+        """A server over the model."""
         server = makers.Planted()
-        self.addCleanup(server.listening.close)
+        self.addCleanup(server.end)
         return server
 
     def create(self, gate=7, capacity=1000, **options):
@@ -366,26 +373,21 @@ def replied_to(frame):
 
 
 class Told:
-    """A server that gives the answers of a list, one for each request, and keeps what it was asked."""
+    """A server that gives the answers of a list, one for each request, and keeps what it was asked. Where none is left,
+    it hangs up."""
 
     def __init__(self, test, answers=(), host="127.0.0.1"):
         self.answers, self.asked = list(answers), []
-        self.listening, self.text = wire.listener((host, 0))
-        test.addCleanup(self.listening.close)
-        threading.Thread(target=self.take, daemon=True).start()
-
-    def take(self):
-        while True:
-            try:
-                connection, _ = self.listening.accept()
-            except OSError:
-                return
-            threading.Thread(target=self.serve, args=(connection,), daemon=True).start()
+        door = Door(self.serve, (host, 0))
+        self.text = door.text
+        test.addCleanup(door.shut)
 
     def serve(self, connection):
         with connection:
             while len(head := connection.recv(2, socket.MSG_WAITALL)) == 2:
                 self.asked.append(head + connection.recv(wire.number_at(head, 0, 2), socket.MSG_WAITALL))
+                if not self.answers:
+                    return
                 connection.sendall(self.answers.pop(0))
 
 

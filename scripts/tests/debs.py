@@ -6,6 +6,7 @@ import shutil
 import subprocess
 import unittest
 
+import program
 from harness import TOP
 
 NEEDED = {"debhelper": "dh", "dpkg-dev": "dpkg-buildpackage", "pandoc": "pandoc"}
@@ -23,6 +24,10 @@ def make(folder, umask=-1, **environment):
     and what was told."""
     if lacking():
         raise unittest.SkipTest(lacking())
+    # scripts/package would prove and build them, which is none of a test's business.
+    stale = [name for name in ("tap_server", "gate_send") if not program.is_built(name)]
+    if stale:
+        raise AssertionError(f"{', '.join(stale)} isn't built of the code as it is: run 'rt ci'")
     # Of a tree without commits as well, as one that was unpacked.
     moment = {} if (TOP / ".git").exists() else {"SOURCE_DATE_EPOCH": "1700000000"}
     done = subprocess.run([TOP / "scripts" / "package", folder], env={**os.environ, **moment, **environment}, umask=umask,
@@ -32,13 +37,36 @@ def make(folder, umask=-1, **environment):
     return pathlib.Path(done.stdout.splitlines()[-1]), done.stderr
 
 
-def remade(package, version, conffile):
-    """The package with a higher version, and with another conffile: beside it."""
+# The settings as the version 1.0.0 had them: a file of the package, all arguments in one line, which its unit read.
+EARLIER = """\
+# The words of the server behind `bovtrila serve` (man bovtrila-serve); paths are below /var/lib/bovtrila.
+# Revised tables are the last words, and only ever grow: .. --lines 8 prices-2026.toml
+# The first start makes the journal. From the second start on take the other line, so that none makes another journal.
+SERVE="--table first.toml --journal station.journal --cards 1000 --capacity 1000000 --listen 127.0.0.1:4014 --lines 8"
+#SERVE="--table first.toml --journal station.journal --cards 1000 --capacity 1000000 --listen 127.0.0.1:4014 --lines 8 --strict"
+"""
+
+
+def as_earlier(folder):
+    """Gives what a package has the settings and the units that the version 1.0.0 had."""
+    (folder / "etc" / "bovtrila").mkdir(parents=True)
+    (folder / "etc" / "bovtrila" / "serve.conf").write_text(EARLIER)
+    (folder / "DEBIAN" / "conffiles").write_text("/etc/bovtrila/serve.conf\n")
+    for name, config in (("bovtrila", "serve"), ("bovtrila@", "%i")):
+        unit = folder / "lib" / "systemd" / "system" / f"{name}.service"
+        text = re.sub(r"^ExecStart(Post)?=.*\n|^TimeoutStartSec=.*\n", "", unit.read_text(), flags=re.M)
+        unit.write_text(text.replace("[Service]\n", f"[Service]\nEnvironmentFile=/etc/bovtrila/{config}.conf\n"
+                                     "ExecStart=/usr/bin/bovtrila serve $SERVE\n"))
+
+
+def remade(package, version, change=None):
+    """The package with another version, and with a change of what it has: beside it."""
     folder = package.with_suffix("")
     subprocess.run(["dpkg-deb", "--raw-extract", package, folder], check=True)
     control = folder / "DEBIAN" / "control"
     control.write_text(re.sub(r"^Version: .*$", f"Version: {version}", control.read_text(), flags=re.M))
-    (folder / "etc" / "bovtrila" / "serve.conf").write_text(conffile)
+    if change:
+        change(folder)
     made = package.with_name(f"bovtrila_{version}_amd64.deb")
     subprocess.run(["dpkg-deb", "--root-owner-group", "--build", folder, made], check=True, stdout=subprocess.DEVNULL)
     shutil.rmtree(folder)

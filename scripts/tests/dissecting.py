@@ -222,6 +222,22 @@ class Dissector(unittest.TestCase):
                 self.assertEqual(set(marks), wanted)
                 self.assertEqual(marks.get("repeat_of", str(before)), str(before))
 
+    def test_a_new_kind_is_shown_by_the_rows_of_the_tables(self):
+        text = SCRIPT.read_text()
+        for table, row in (("kinds", '[0x07] = "Block",'), ("lengths", "[0x07] = 15,"),
+                           ("fields", '[0x07] = { { "gate", 2 }, { "number", 4 }, { "card", 4 }, { "moment", 4 } },')):
+            self.assertEqual(text.count(f"-- end: {table}\n"), 1)
+            text = text.replace(f"-- end: {table}\n", f"{row}\n")
+        script, dump, capture = (self.file.with_name(name) for name in ("new.lua", "new.txt", "new.pcapng"))
+        script.write_text(text)
+        dump.write_text("0000 " + bytes.fromhex("000f 07 0007 00000009 00000003 677b8b28").hex(" ") + "\n")
+        subprocess.run(["text2pcap", "-q", "-T", "50000,4014", dump, capture], check=True, capture_output=True, timeout=TIME)
+        fields = ["-T", "fields", "-e", "bovtrila.gate", "-e", "bovtrila.number", "-e", "bovtrila.card"]
+        for more, wanted in (([], "Block 7/9: card 3\n"), (fields, "7\t9\t3\n")):
+            done = subprocess.run(["tshark", "-X", f"lua_script:{script}", "-r", str(capture), *more], capture_output=True,
+                                  text=True, timeout=TIME)
+            self.assertIn(wanted, done.stdout, done.stderr)
+
     def test_the_pieces_were_of_a_byte(self):
         words = ["tshark", "-r", str(self.file), "-Y", "tcp.len == 1", "-T", "fields", "-e", "frame.number"]
         lines = subprocess.run(words, capture_output=True, text=True, check=True).stdout.split()

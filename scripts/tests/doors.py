@@ -9,6 +9,7 @@ import threading
 import time
 
 from harness import TIME, TOP, free_port
+from listening import Door
 
 AUTHORITY, STUNNEL = TOP / "scripts" / "authority", TOP / "packaging" / "stunnel"
 
@@ -26,21 +27,15 @@ class Relay:
 
     def __init__(self, server):
         self.server, self.connections, self.bytes = server, 0, 0
-        self.listening = socket.create_server(("127.0.0.1", 0), backlog=64)
-        self.port = self.listening.getsockname()[1]
-        threading.Thread(target=self.take, daemon=True).start()
+        self.door = Door(self.pass_on)
+        self.port = self.door.port
 
-    def take(self):
-        while True:
-            try:
-                gate, _ = self.listening.accept()
-            except OSError:
-                return
-            self.connections += 1
-            server = socket.create_connection(self.server, TIME)
-            for end, other in ((gate, server), (server, gate)):
-                end.setsockopt(socket.IPPROTO_TCP, socket.TCP_NODELAY, 1)
-                threading.Thread(target=self.carry, args=(end, other, end is gate), daemon=True).start()
+    def pass_on(self, gate):
+        self.connections += 1
+        server = socket.create_connection(self.server, TIME)
+        for end, other in ((gate, server), (server, gate)):
+            end.setsockopt(socket.IPPROTO_TCP, socket.TCP_NODELAY, 1)
+            threading.Thread(target=self.carry, args=(end, other, end is gate), daemon=True).start()
 
     def carry(self, end, other, counts):
         try:
@@ -56,7 +51,7 @@ class Relay:
 def changes(tls, server, host="127.0.0.1"):
     """What is otherwise in the configuration of a test's stunnel: where the authority's files lie, a free port of its
     own, and the server's port."""
-    return (("/etc/bovtrila/tls", tls), ("accept = 4015", f"accept = {host}:{free_port()}"),
+    return (("/etc/bovtrila/tls", tls), ("accept = :::4015", f"accept = {host}:{free_port()}"),
             ("127.0.0.1:4014", f"127.0.0.1:{server}"))
 
 

@@ -1,11 +1,13 @@
-"""The tests of a gate's file, for scripts/tests/gate-library: what is refused, losses of power, and calls of the system that
+"""The tests of a gate's file, for scripts/tests/gate-library: refused files, losses of power, and calls of the system that
 fail."""
+import errno
 import os
 import random
 import re
 import socket
 import struct
 import subprocess
+import time
 
 import clients
 import harness
@@ -46,8 +48,9 @@ class Files(GateTest):
             self.assertEqual(self.file.read_bytes(), content)
         self.write(b"")
         self.assertEqual(self.create(7, 1_000_000)[0], CAUSE["OK"])
-        self.assertEqual(clients.create(self.asker, self.folder, 7, 5)[0], CAUSE["DEVICE"])
-        self.assertEqual(clients.create(self.asker, self.folder / "no" / "file", 7, 5), [CAUSE["DEVICE"], 0, 2])
+        self.assertEqual(clients.create(self.asker, self.folder, 7, 5), [CAUSE["NOT_PLAIN"], 0, errno.EISDIR])
+        for name, error in (("no/file", errno.ENOENT), ("7/file", errno.ENOTDIR)):
+            self.assertEqual(clients.create(self.asker, self.folder / name, 7, 5), [CAUSE["NO_FOLDER"], 0, error])
 
     def test_each_cause_of_an_opening_is_told(self):
         whole = clients.file_of(self.frames, 10, 7)
@@ -77,12 +80,30 @@ class Files(GateTest):
         self.write(clients.file_of([FIRST[0], FIRST[0], FIRST[0]], 10, 7)[:-2])
         self.assertEqual(self.opening(), [CAUSE["DAMAGED"], 2, 0])
         self.file.unlink()
-        self.assertEqual(self.opening(), [CAUSE["MISSING"], 0, 2])
+        self.assertEqual(self.opening(), [CAUSE["MISSING"], 0, errno.ENOENT])
         self.file.mkdir()
-        self.assertEqual(self.opening()[0], CAUSE["DEVICE"])
+        self.assertEqual(self.opening(), [CAUSE["NOT_PLAIN"], 0, errno.EISDIR])
         self.file.rmdir()
         os.mkfifo(self.file)
-        self.assertEqual(self.opening()[0], CAUSE["DEVICE"])
+        self.assertEqual(self.opening(), [CAUSE["NOT_PLAIN"], 0, errno.EINVAL])
+
+    def test_a_missing_folder_and_a_lack_of_permission_are_told(self):
+        whole = self.file
+        self.file = self.folder / "no" / "file"
+        self.assertEqual(self.opening(), [CAUSE["NO_FOLDER"], 0, errno.ENOENT])
+        self.file = whole
+        for making in (True, False):
+            for error, cause in ((errno.EACCES, "PERMISSION"), (errno.EROFS, "PERMISSION"), (errno.EPERM, "PERMISSION"),
+                                 (errno.ENXIO, "NOT_PLAIN"), (errno.EMFILE, "DEVICE"), (errno.EIO, "DEVICE")):
+                # Of a making the first call opens the file; of an opening a call takes memory before it.
+                log = clients.Log(clients.program("calls"), REFUSE=1 if making else 2, ERROR=error)
+                with self.subTest(making=making, error=errno.errorcode[error]):
+                    if making:
+                        told = self.create(**log.options())
+                    else:
+                        with self.open("127.0.0.1:1", **log.options()) as asker:
+                            told = asker.opened
+                    self.assertEqual(told, [CAUSE[cause], 0, error])
 
     def old(self, gate, cards=1):
         """The file of a gate as the library wrote it before version 1.1."""
@@ -137,9 +158,42 @@ class Files(GateTest):
         for place, addresses in enumerate((["x"], ["127.0.0.1:1", ":5"], ["127.0.0.1:1"] * 2 + ["127.0.0.1:"])):
             with self.subTest(addresses):
                 self.assertEqual(self.opening(addresses=addresses), [CAUSE["NO_ADDRESS"], place, 0])
-        self.assertEqual(self.opening(addresses=["[::1]:5", "127.0.0.1:65535"])[0], CAUSE["OK"])
-        for addresses in (["127.0.0.1:port"], ["no-such-host.invalid:1"]):
-            self.assertEqual(self.opening(addresses=addresses)[0], CAUSE["NO_ADDRESS"])
+        self.assertEqual(self.opening(addresses=["[::1]:5", "127.0.0.1:65535"]), [CAUSE["OK"], 0, 0])
+        for port in ("0", "65536", "69550", "4294967297", "18446744073709551617", "port", "+5", "-1", " 5", "5 ", "0x10"):
+            with self.subTest(port=port):
+                self.assertEqual(self.opening(addresses=[f"127.0.0.1:{port}"]), [CAUSE["NO_ADDRESS"], 0, 0])
+
+    def test_a_host_that_is_not_known_at_the_start_is_looked_up_again(self):
+        self.create()
+        server = Told(self, [replied_to(frame) for frame in FIRST])
+        log = clients.Log(clients.program("calls"), UNKNOWN=2)
+        later = f"later.test:{server.text.rpartition(':')[2]}"
+        with self.open([later], **log.options()) as asker:
+            self.assertEqual(asker.opened, [CAUSE["OK"], 0, socket.EAI_AGAIN])
+            self.assertEqual(asker.ask(clients.act_of(FIRST[0]))[0], RESULT["ACCEPTED"])
+            self.assertEqual(asker.ask("error"), [errno.EHOSTUNREACH], (log.calls(), server.asked))
+        looked = [data for name, _, data in log.calls() if name == "look-up"]
+        self.assertEqual(looked, [b"later.test"] * 3)
+
+    def test_a_known_address_that_answers_is_not_held_up_by_an_unknown_one(self):
+        self.create()
+        server = Told(self, [replied_to(frame) for frame in FIRST])
+        log = clients.Log(clients.program("calls"), UNKNOWN=1000)
+        with self.open([server.text, "later.test:1"], **log.options()) as asker:
+            self.assertEqual(asker.opened, [CAUSE["OK"], 1, socket.EAI_AGAIN])
+            for frame in FIRST:
+                self.assertEqual(asker.ask(clients.act_of(frame))[0], RESULT["ACCEPTED"])
+        looked = [data for name, _, data in log.calls() if name == "look-up"]
+        self.assertEqual(looked, [b"127.0.0.1", b"later.test"])
+
+    def test_a_call_with_no_known_host_ends_in_its_time(self):
+        self.create()
+        log = clients.Log(clients.program("calls"), UNKNOWN=1000)
+        with self.open(["later.test:1"], times=(300, 100, 20, 40), **log.options()) as asker:
+            begun = time.monotonic()
+            self.assertEqual(asker.ask(clients.act_of(FIRST[0])), [RESULT["NO_ANSWER"], 1, 0, 0, 0, 0])
+            self.assertLess(time.monotonic() - begun, 5)
+            self.assertEqual(asker.ask("error"), [errno.EHOSTUNREACH])
 
     def test_a_full_file_takes_no_touch(self):
         self.create(capacity=2)
@@ -379,6 +433,32 @@ class Steps(GateTest):
         with self.open([]) as asker:
             self.assertEqual(self.frame_of(asker), revision)
 
+    def test_enquiries_over_lines_of_the_gate_s_own(self):
+        pairs = [(vector.request, vector.answer) for station in wire.vectors() for vector in station.vectors
+                 if wire.is_request(vector.request) and vector.request[2] == model.ENQUIRE]
+        self.assertGreater(len(pairs), 10)
+        self.create()
+        with self.open([]) as asker:
+            self.keep(asker, FIRST[0])
+            for request, answer in pairs:
+                with self.subTest(request.hex()):
+                    asker.write(f"enquiry {wire.number_at(request, 3, 4)}")
+                    self.assertEqual(asker.process.stdout.readline(), f"7 {request.hex()}\n")
+                    for size in range(len(answer)):
+                        self.assertEqual(asker.ask(f"hear-enquiry {answer[:size].hex()}"),
+                                         [RESULT["NO_ANSWER"], 0, 0, 0, 0])
+                    for more in (b"", answer):
+                        self.assertEqual(asker.ask(f"hear-enquiry {(answer + more).hex()}"), clients.told_by(answer, 0))
+            for answer, wanted in ((model.fault(3), [RESULT["FAULT"], 0, 3, 0, 0]),
+                                   (model.fault(1), [RESULT["FAULT"], 0, 1, 0, 0]),
+                                   (model.fault(3, 7, 1), [RESULT["STRAY"], 0, 0, 0, 0]),
+                                   (replied_to(FIRST[0]), [RESULT["STRAY"], 0, 0, 0, 0]),
+                                   (b"\x01", [RESULT["STRAY"], 0, 0, 0, 0])):
+                with self.subTest(answer.hex()):
+                    self.assertEqual(asker.ask(f"hear-enquiry {answer.hex()}"), wanted)
+            # The touch waits on, whatever comes of enquiries.
+            self.assertEqual(self.frame_of(asker), FIRST[0])
+
     def test_what_is_no_reply(self):
         self.create()
         reply = replied_to(FIRST[0])
@@ -484,7 +564,8 @@ class Shared(GateTest):
                     waiting = asker.ask("waiting")
                     self.assertEqual(waiting[1] if waiting else 0, place)
                     if place:
-                        self.assertEqual(asker.ask("resend"), clients.told_by(answers[place - 1], place))
+                        told = clients.earlier(clients.told_by(answers[place - 1], place))
+                        self.assertEqual(asker.ask("resend"), told)
                     self.assertEqual(asker.ask(clients.act_of(frame)), clients.told_by(answers[place], place + 1))
             else:
                 new = ["--new", "--capacity", "1000"] if place == 0 else []

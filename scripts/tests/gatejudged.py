@@ -1,11 +1,11 @@
-"""What gate_send does where no answer comes, or another one: scripts/stand-in judges it as docs/PROTOCOL.md asks of a gate. For
+"""What gate_send does without an answer, or with another one: scripts/stand-in judges it by docs/PROTOCOL.md. For
 scripts/tests/gate-sends."""
 import concurrent.futures
 import os
 import subprocess
 
 from harness import TIME, TOP
-from sending import FRAMES, MORNING, SendTest
+from sending import ANSWERED, FRAMES, MORNING, SendTest
 from troubles import TROUBLES
 
 # The verdicts for which a barrier opens; of those without a name it opens for each below 20.
@@ -17,6 +17,17 @@ def opens(row):
     act, verdict = row.split(",")[3:7:3]
     word, _, code = verdict.partition(" ")
     return act in ("in", "out") and (verdict in OPENING or word == "verdict" and int(code) < 20)
+
+
+def stand_in(case, script, *more):
+    """A stand-in for a server that answers by this script, and its address. It waits for the test, however slow that is."""
+    steps = case.folder / "script"
+    steps.write_text(script + "rest answer\n")
+    words = [TOP / "scripts" / "stand-in", "127.0.0.1:0", steps, "--linger", str(TIME), "--patience", str(TIME), *more]
+    judge = subprocess.Popen(words, stdout=subprocess.PIPE, stderr=subprocess.PIPE, text=True)
+    case.addCleanup(judge.communicate)
+    case.addCleanup(judge.kill)
+    return judge, judge.stderr.readline().split()[1]
 
 
 class Judged(SendTest):
@@ -38,17 +49,15 @@ class Judged(SendTest):
 
     def judged(self, script):
         """What the stand-in says of gate_send: its status, and its last line with all of them."""
-        steps, opened = self.folder / "script", self.folder / "opened"
-        steps.write_text(script + "rest answer\n")
+        opened = self.folder / "opened"
         os.mkfifo(opened)
-        words = [TOP / "scripts" / "stand-in", "127.0.0.1:0", steps, "--barrier", opened, "--linger", "0.3", "--patience", "60"]
-        judge = subprocess.Popen(words, stdout=subprocess.PIPE, stderr=subprocess.PIPE, text=True)
-        self.addCleanup(judge.communicate)
-        self.addCleanup(judge.kill)
-        station = judge.stderr.readline().split()[1]
+        judge, station = stand_in(self, script, "--barrier", opened)
         with open(opened, "w") as barrier:
             told = self.told(station)
-            barrier.write("".join(f"7 {number}\n" for number, row in told.items() if opens(row)))
+            barrier.write("".join(f"7 {number}\n" for number, row in told.items() if opens(row)) + "start 65535\n")
+        # With this it has read all lines.
+        self.assertEqual(judge.stderr.readline(), "started 65535\n")
+        judge.terminate()
         said = judge.stdout.read()
         self.assertEqual(self.kept(), FRAMES)
         return judge.wait(TIME), said
@@ -71,3 +80,21 @@ class Judged(SendTest):
             for name, wrong in zip(TROUBLES, rows.map(found, TROUBLES)):
                 with self.subTest(name):
                     self.assertIsNone(wrong)
+
+
+class Starts(SendTest):
+    """A gate over gate_send that is started again (docs/PROTOCOL.md, "After a gate's start")."""
+
+    def test_a_start_isn_t_over_before_a_run_by_resend_ends_with_status_0(self):
+        _, station = stand_in(self, "answer\nanswer\nclose\nfault 5\nanswer\n")
+        status, out, _ = self.send(MORNING[:3], "--new", "--tries", 1, station, timeout=1000 * TIME)
+        self.assertEqual((status, out), (1, ANSWERED[:2]))
+        # The file has a touch, and this run prints no line: a run after it would begin with the reply to that touch.
+        status, out, err = self.send([], "--resend", station, timeout=1000 * TIME)
+        self.assertEqual((status, out, err.splitlines()[0]), (1, [], "fault answer 5 Full"))
+        self.assertEqual(self.send([], "--resend", station, timeout=1000 * TIME), (0, ANSWERED[2:3], ""))
+        noted = 3
+        status, out, _ = self.send(MORNING[3:], station, timeout=1000 * TIME)
+        self.assertEqual((status, out), (0, ANSWERED[2:]))
+        self.assertTrue(all(map(opens, out)))
+        self.assertEqual([row for row in out if int(row.split(",")[1]) > noted], ANSWERED[3:])

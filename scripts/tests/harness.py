@@ -1,6 +1,6 @@
-"""What the scripts share: paths, running the program, and the tests' last line 'N passed, M failed'.
+"""Shared by the scripts: paths, running the program, and the tests' last line 'N passed, M failed'.
 
-A test that the machine can't run is skipped with the reason, which a line tells: it counts as neither.
+A test that the machine can't run is skipped, and a line reports the reason: it counts as neither.
 """
 import contextlib
 import hashlib

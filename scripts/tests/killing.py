@@ -2,8 +2,8 @@
 
     python3 scripts/tests/killing.py N SCRIPT [WORD ..]
 
-runs the script with these words and kills it, as by `kill -9`, just before the Nth of its calls that change a disk,
-start a program or connect. A script that makes fewer ends as it does without this.
+runs the script with these arguments and kills it, as by `kill -9`, just before the Nth of its calls that change a disk,
+start a program or connect. A script with fewer such calls ends normally.
 """
 import os
 import runpy

@@ -1,9 +1,8 @@
-"""A new machine, for trying a package: this one's files below a writable layer, with a systemd of its own as the
+"""A new machine, for trying a package: this machine's files below a writable layer, with a separate systemd as the
 first process.
 
-It is made of namespaces (unshare, nsenter), an overlay of the file system in memory and a group of processes, so it
-needs root. It has a network of its own, with nothing in it but the machine itself. What happens in it leaves nothing
-behind.
+It consists of namespaces (unshare, nsenter), an overlay of the file system in memory and a group of processes, so it
+needs root. It has a separate network with nothing in it but the machine itself. Nothing of it remains afterwards.
 """
 import os
 import pathlib

@@ -41,7 +41,14 @@ class Reports(OnSqlite, DatabaseTest):
         return [tuple(row) for row in rows]
 
     def test_each_station_has_its_touches_and_its_money(self):
-        self.assertEqual((self.done.returncode, self.done.stderr), (0, ""))
+        self.assertEqual((self.done.returncode, self.done.stderr), (3, ""))
+        # The journal that is refused has no touch of Saturday: it is the first that the page shows.
+        last = [*self.town.servers[FLIPPED].touches(self.town.fronts[FLIPPED])][-1].moment
+        rows = self.cells("Servers without touches of the day")[1:]
+        self.assertEqual([row[:3] for row in rows],
+                         [("Cedar", FLIPPED, f"no touches since {town.moment_text(last)}")])
+        self.assertRegex(rows[0][3], r"^loaded at 20\d\d-\d\d-\d\dT\d\d:\d\d:\d\dZ$")
+        self.assertLess(self.text.index("Servers without touches"), self.text.index("<h2>Stations</h2>"))
         wanted = []
         for station in sorted(set(town.SERVERS.values())):
             touches = [touch for touch in self.town.touches()
@@ -65,14 +72,14 @@ class Reports(OnSqlite, DatabaseTest):
 
     def test_it_is_the_same_page_for_the_same_rows_and_needs_nothing_else(self):
         again = self.page.with_name("again.html")
-        self.assertEqual(call("report", "--day", town.SATURDAY, "-o", again, "--database", self.base).returncode, 0)
+        self.assertEqual(call("report", "--day", town.SATURDAY, "-o", again, "--database", self.base).returncode, 3)
         self.assertEqual(again.read_text(), self.text)
         self.assertEqual(re.findall(r"(?:src|href)=\"(?!#)[^\"]*\"", self.text), [])
         self.assertEqual(self.text.count("<svg"), 5)
 
     def test_a_day_without_touches_and_a_missing_database_are_told(self):
         empty = self.page.with_name("empty.html")
-        self.assertEqual(call("report", "--day", "2024-01-01", "-o", empty, "--database", self.base).returncode, 0)
+        self.assertEqual(call("report", "--day", "2024-01-01", "-o", empty, "--database", self.base).returncode, 3)
         self.assertIn("No touch of a card bears this day.", empty.read_text())
         done = call("report", "--day", "2024-01-01", "-o", empty, "--database", "/nowhere/network.db")
         self.assertEqual((done.returncode, done.stderr.count("\n")), (1, 1))
@@ -122,7 +129,12 @@ exec PROGRAM "$@"
     def audit(self, journals, *words, program=PROGRAM):
         done = call("audit", *journals, *TABLES, "--report", self.report, "--program", program, *words)
         self.assertNotIn(FROM_AUDIT, done.stderr)
-        return done, json.loads(self.report.read_text())["journals"] if self.report.exists() else {}
+        return done, self.reported()
+
+    def reported(self):
+        """What the report has of each server."""
+        servers = json.loads(self.report.read_text())["servers"] if self.report.exists() else {}
+        return {name: server["facts"] for name, server in servers.items()}
 
     def sums(self, name, front):
         """What the model has of a server: how many touches, and the cards' sums."""
@@ -130,14 +142,14 @@ exec PROGRAM "$@"
         self.addCleanup(self.town.fronts.update, {name: self.town.fronts[name]})
         self.town.fronts[name] = server.fronts[front]
         rows = [row[5:] for row in self.town.all_held() if row[2] == name]
-        sums = [sum(column) for column in zip(*rows)]
-        return {"cards": len(rows), **dict(zip(("balance", "paid_in", "charged"), sums))}
+        balance, _, paid_in, charged = (sum(column) for column in zip(*rows))
+        return {"cards": len(rows), "balance": balance, "paid_in": paid_in, "charged": charged}
 
     def test_sums_seals_and_what_changed_since_the_last_report(self):
         done, first = self.audit(self.copies("friday"), "--workers", 2)
         self.assertEqual(done.returncode, 0, done.stderr)
-        self.assertIn("100% Completed", done.stderr)
-        for name, facts in zip(town.SERVERS, first.values()):
+        self.assertIn("audited 6 of 6 journals", done.stderr)
+        for name, facts in first.items():
             self.assertEqual((facts["touches"], facts["sums"]), (self.town.servers[name].fronts[0], self.sums(name, 0)))
         strange = self.room / "strange"
         strange.write_text("no journal")
@@ -149,23 +161,23 @@ exec PROGRAM "$@"
         slots = self.town.servers[next(iter(town.SERVERS))].fronts[1] - 1
         done, second = self.audit([*journals, strange, "/nowhere", behind], "--workers", 2)
         self.assertEqual(done.returncode, 1)
-        for name, facts in zip(town.SERVERS, second.values()):
+        for name in town.SERVERS:
             if name != FLIPPED:
+                facts = second[name]
                 self.assertEqual((facts["touches"], facts["sums"]), (self.town.servers[name].fronts[1], self.sums(name, 1)))
         flipped = str(self.room / FLIPPED / "station.journal")
-        self.assertEqual({path: facts["fault"] for path, facts in second.items() if "fault" in facts},
-                         {flipped: "fault seal 2 Changed", str(strange): "fault journal 3 NotAJournal",
-                          "/nowhere": "No such file or directory", str(behind): f"{slots} open slots behind the end"})
-        for line in (f"  {flipped}: was sound", "  journals 6 -> 9", "  sound 6 -> 5", f"  {strange}: new"):
+        self.assertEqual({name: facts["fault"] for name, facts in second.items() if "fault" in facts},
+                         {FLIPPED: "fault seal 2 Changed", "strange": "fault journal 3 NotAJournal",
+                          "nowhere": "No such file or directory", "behind": f"{slots} open slots behind the end"})
+        for line in (f"  {FLIPPED}: was sound", "  journals 6 -> 9", "  sound 6 -> 5", "  strange: new"):
             self.assertIn(line, done.stdout.splitlines())
         # It stays a fault, by the seal of before; put right, it is sound again.
-        self.assertEqual(second[flipped]["sealed"], first[flipped]["sealed"])
         done, third = self.audit([flipped], "--workers", 1)
-        self.assertEqual((done.returncode, third[flipped]["fault"]), (1, "fault seal 2 Changed"))
+        self.assertEqual((done.returncode, third[FLIPPED]["fault"]), (1, "fault seal 2 Changed"))
         flip(pathlib.Path(flipped))
         done, _ = self.audit([flipped], "--workers", 1)
         self.assertEqual(done.returncode, 0)
-        self.assertIn(f"  {flipped}: is sound again", done.stdout.splitlines())
+        self.assertIn(f"  {FLIPPED}: is sound again", done.stdout.splitlines())
 
     def start(self, *words):
         """A part of Dask, ended with the test by its id."""
@@ -177,19 +189,30 @@ exec PROGRAM "$@"
         self.addCleanup(started.kill)
         return started
 
-    def test_the_journals_of_a_killed_worker_are_done_by_others(self):
+    def scheduled(self, workers, *words, nanny="--no-nanny"):
+        """A scheduler with so many workers: its address, and their processes. A nanny starts its worker again."""
         scheduler = self.room / "scheduler.json"
-        self.start("dask_scheduler", "--host", "127.0.0.1", "--port", 0, "--no-dashboard", "--scheduler-file", scheduler)
-        workers = [self.start("dask_worker", "--scheduler-file", scheduler, "--host", "127.0.0.1", "--nthreads", 1,
-                              "--no-nanny", "--no-dashboard", "--name", f"worker-{place}", "--local-directory",
-                              self.room / f"worker-{place}") for place in range(3)]
-        stand_in = self.room / "stand-in"
-        stand_in.write_text(self.STAND_IN.replace("FOLDER", str(self.room)).replace("PROGRAM", str(PROGRAM)))
-        stand_in.chmod(0o755)
+        self.start("dask_scheduler", "--host", "127.0.0.1", "--port", 0, "--no-dashboard", "--scheduler-file", scheduler,
+                   *words)
+        started = [self.start("dask_worker", "--scheduler-file", scheduler, "--host", "127.0.0.1", "--nthreads", 1,
+                              nanny, "--no-dashboard", "--name", f"worker-{place}", "--local-directory",
+                              self.room / f"worker-{place}", *words) for place in range(workers)]
         self.wait_for(scheduler)
+        return json.loads(scheduler.read_text())["address"], started
+
+    def stand_in(self, text):
+        """A program of this text in the place of the real one."""
+        stand_in = self.room / "stand-in"
+        stand_in.write_text(text.replace("FOLDER", str(self.room)).replace("PROGRAM", str(PROGRAM)))
+        stand_in.chmod(0o755)
+        return stand_in
+
+    def test_the_journals_of_a_killed_worker_are_done_by_others(self):
+        address, workers = self.scheduled(3)
+        stand_in = self.stand_in(self.STAND_IN)
         asked = subprocess.Popen(
             [str(word) for word in (NETWORK / "audit", *self.copies("friday"), *TABLES, "--report", self.report, "--program",
-                                    stand_in, "--scheduler", json.loads(scheduler.read_text())["address"])],
+                                    stand_in, "--scheduler", address)],
             stdout=subprocess.PIPE, stderr=subprocess.PIPE, text=True)
         self.wait_for(self.room / "worker")
         worker = int((self.room / "worker").read_text())
@@ -198,8 +221,7 @@ exec PROGRAM "$@"
         out, err = asked.communicate(timeout=TIME)
         (self.room / "first").rmdir()
         self.assertEqual((asked.returncode, FROM_AUDIT in err), (1, False), err)
-        found = json.loads(self.report.read_text())["journals"]
-        for name, facts in zip(town.SERVERS, found.values()):
+        for name, facts in self.reported().items():
             if name == "alder-2":
                 self.assertEqual(facts["fault"], f"{stand_in} was ended by signal 11")
             else:
@@ -214,16 +236,104 @@ exec PROGRAM "$@"
             time.sleep(0.05)
 
     def test_a_journal_that_costs_each_worker_its_life_is_a_line(self):
-        stand_in = self.room / "stand-in"
-        stand_in.write_text(f'#!/bin/sh\ncase "$*" in *alder-2*) kill -KILL "$PPID" ;; esac\nexec {PROGRAM} "$@"\n')
-        stand_in.chmod(0o755)
-        done, found = self.audit(self.copies("friday"), "--workers", 2, program=stand_in)
-        faults = {path: facts["fault"] for path, facts in found.items() if "fault" in facts}
-        self.assertEqual((done.returncode, [*faults]), (1, [str(self.room / "alder-2" / "station.journal")]))
+        address, _ = self.scheduled(2, nanny="--nanny")
+        stand_in = self.stand_in('#!/bin/sh\ncase "$*" in *alder-2*) kill -KILL "$PPID" ;; esac\nexec PROGRAM "$@"\n')
+        done, found = self.audit(self.copies("friday")[:2], "--scheduler", address, program=stand_in)
+        faults = {name: facts["fault"] for name, facts in found.items() if "fault" in facts}
+        self.assertEqual((done.returncode, [*faults]), (1, ["alder-2"]))
         self.assertRegex(*faults.values(), "^its task was lost: KilledWorker: ")
+
+    def test_the_page_s_certificates_secure_a_scheduler(self):
+        """By the commands of docs/NETWORK.md: one who has no certificate gets no answer."""
+        subprocess.run(["openssl", "req", "-x509", "-newkey", "ec", "-pkeyopt", "ec_paramgen_curve:P-256", "-nodes", "-days",
+                        "7", "-subj", "/CN=audit", "-keyout", "audit.key", "-out", "audit.crt"], cwd=self.room, check=True,
+                       capture_output=True, timeout=TIME)
+        words = ["--tls-ca-file", "audit.crt", "--tls-cert", "audit.crt", "--tls-key", "audit.key", "--protocol", "tls"]
+        address, _ = self.scheduled(1, *words)
+        self.assertTrue(address.startswith("tls://127.0.0.1:"))
+        settings = {"DASK_DISTRIBUTED__COMM__TLS__CA_FILE": "audit.crt",
+                    "DASK_DISTRIBUTED__COMM__TLS__CLIENT__CERT": "audit.crt",
+                    "DASK_DISTRIBUTED__COMM__TLS__CLIENT__KEY": "audit.key"}
+        journal = self.copies("friday")[0]
+        for more, patience, status in ((settings, TIME, 0), ({}, 5, 1)):
+            done = call("audit", journal, *TABLES, "--report", self.report, "--program", PROGRAM, "--scheduler", address,
+                        "--patience", patience, cwd=self.room, env={**os.environ, **more})
+            self.assertEqual((done.returncode, FROM_AUDIT in done.stderr), (status, False), done.stderr)
+        self.assertTrue(done.stderr.startswith(f"audit: {address} needs certificates in Dask's configuration"))
 
     def test_a_scheduler_that_is_not_there_is_told(self):
         done = call("audit", *self.copies("friday"), *TABLES, "--report", self.report, "--program", PROGRAM, "--patience", 1,
                     "--scheduler", f"tcp://127.0.0.1:{harness.free_port()}")
         self.assertEqual((done.returncode, done.stdout, self.report.exists()), (1, "", False))
         self.assertRegex(done.stderr, r"^audit: ")
+
+    def flat(self, *names):
+        """Copies of two servers' journals in one folder, by these names."""
+        for name, server in zip(names, ("alder-1", "birch-1")):
+            shutil.copy(self.folder / server / "friday" / "station.journal", self.room / name)
+
+    def audited(self, *journals):
+        """The status of an audit in the folder of the copies, and the lines that it prints."""
+        done = call("audit", *journals, *TABLES, "--report", self.report, "--program", PROGRAM, "--workers", 1,
+                    cwd=self.room)
+        self.assertNotIn(FROM_AUDIT, done.stderr)
+        return done.returncode, done.stdout.splitlines()
+
+    def test_a_seal_outlives_an_audit_that_leaves_its_server_out(self):
+        self.flat("x01", "x02")
+        self.assertEqual([self.audited(*asked)[0] for asked in (("x01", "x02"), ("x01",))], [0, 0])
+        flip(self.room / "x02")
+        status, lines = self.audited("x01", "x02")
+        self.assertEqual((status, lines[1]), (1, "x02: fault seal 2 Changed"))
+
+    def test_a_seal_belongs_to_a_server_and_not_to_a_path(self):
+        self.flat("x03")
+        self.assertEqual(self.audited("x03")[0], 0)
+        flip(self.room / "x03")
+        shutil.copy(self.room / "x03", self.room / "x03-20260105.journal")
+        (self.room / "other" / "x03").mkdir(parents=True)
+        shutil.copy(self.room / "x03", self.room / "other" / "x03" / "station.journal-20260105T033000Z")
+        for path in ("./x03", "x03-20260105.journal", "other/x03/station.journal-20260105T033000Z"):
+            with self.subTest(path):
+                status, lines = self.audited(path)
+                self.assertEqual((status, lines[0]), (1, "x03: fault seal 2 Changed"))
+
+    def test_another_journal_of_a_server_is_a_warning(self):
+        self.flat("first", "second")
+        self.assertEqual(self.audited("x04=first")[0], 0)
+        status, lines = self.audited("x04=second")
+        self.assertEqual(status, 3)
+        self.assertRegex(lines[1], r"^x04: warning: another journal than the one audited on 20\d\d-")
+        # From now on it has a seal, and the first one keeps its own.
+        self.assertEqual([self.audited("x04=second")[0], self.audited("x04=first")[0]], [0, 0])
+        for name in ("first", "second"):
+            flip(self.room / name)
+            status, lines = self.audited(f"x04={name}")
+            self.assertEqual((status, lines[0]), (1, "x04: fault seal 2 Changed"))
+
+    def test_a_journal_of_another_server_is_a_fault(self):
+        self.flat("x05")
+        self.assertEqual(self.audited("x05")[0], 0)
+        status, lines = self.audited("x06=x05")
+        self.assertEqual(status, 1)
+        self.assertRegex(lines[0], r"^x06: it is the journal of x05, as it was audited on 20\d\d-")
+
+    def test_two_journals_of_one_name_are_a_wrong_command_line(self):
+        self.flat("x07", "x07-20260105.journal")
+        done = call("audit", self.room / "x07", self.room / "x07-20260105.journal", *TABLES, "--report", self.report)
+        self.assertEqual((done.returncode, done.stdout, self.report.exists()), (2, "", False))
+        self.assertIn("are both of the server x07; name each as SERVER=FILE", done.stderr)
+
+    def test_the_report_of_an_older_version_keeps_its_seals(self):
+        self.flat("x08")
+        self.assertEqual(self.audited("x08")[0], 0)
+        server = json.loads(self.report.read_text())["servers"]["x08"]
+        seal = server["seals"][0]
+        self.report.write_text(json.dumps({"made": "2026-01-05T04:00:00Z", "journals": {
+            "./x08": {**server["facts"], "sealed": [seal["touches"], seal["seal"]]}}}))
+        old = self.report.read_text()
+        self.assertEqual(self.audited("x08")[0], 0)
+        self.report.write_text(old)
+        flip(self.room / "x08")
+        status, lines = self.audited("x08")
+        self.assertEqual((status, lines[0]), (1, "x08: fault seal 2 Changed"))

@@ -1,4 +1,5 @@
 """Tests of network/load: once, again, killed, two at once, and of a journal that was changed. For scripts/tests/network."""
+import contextlib
 import signal
 import subprocess
 import time
@@ -6,8 +7,8 @@ import time
 import model
 import postgres
 from harness import EXAMPLE, PROGRAM, REVISED
-from network_base import (FLIPPED, NETWORK, TABLES, TIME, DatabaseTest, OnPostgres, OnSqlite, call, driven, everything,
-                          load, words_of)
+from network_base import (FLIPPED, NETWORK, TABLES, TIME, DatabaseTest, OnPostgres, OnSqlite, call, database, driven,
+                          everything, load, words_of)
 
 
 class Loads:
@@ -111,7 +112,7 @@ class Loads:
         self.assertEqual(self.asked(base, "SELECT first_day FROM revisions ORDER BY place"), [(day,) for day in days])
         self.assertEqual(self.asked(base, "SELECT place, moment, day FROM history WHERE place = 3"),
                          [(3, "1970-01-01T00:00:21Z", "1970-01-01")])
-        self.assertEqual(self.asked(base, "SELECT breach FROM violations"), [])
+        self.assertEqual(call("check", "--all", "--database", base).returncode, 0)
 
     def test_what_cant_be_loaded_is_told_in_a_line(self):
         base = self.fresh("wrong")
@@ -143,11 +144,11 @@ class Loads:
         self.assertEqual(load("alder-1", "friday", base).returncode, 0)
         self.assertEqual(load("alder-1", "end", base, "--closed").returncode, 0)
         self.assertEqual(self.asked(base, "SELECT count(*) FROM held"), [(0,)])
-        self.assertEqual(load("alder-1", "friday", base, "--name", "next.journal").returncode, 0)
-        held = self.asked(base, "SELECT card, balance FROM held ORDER BY card")
-        self.town.fronts["alder-1"] = self.town.servers["alder-1"].fronts[0]
-        self.addCleanup(self.town.fronts.update, {"alder-1": self.town.servers["alder-1"].fronts[1]})
-        self.assertEqual(held, [(row[0], row[5]) for row in sorted(self.town.all_held()) if row[2] == "alder-1"])
+        # The touches of another server stand for those of the next journal.
+        other = self.folder / "cedar-1" / "end" / "station.journal"
+        self.assertEqual(load("alder-1", "end", base, "--name", "next.journal", "--journal", other).returncode, 0)
+        held = self.asked(base, "SELECT server_card, balance FROM held ORDER BY server_card")
+        self.assertEqual(held, [(row[3], row[5]) for row in sorted(self.town.all_held()) if row[2] == "cedar-1"])
 
 
 class PostgresLoads(Loads, OnPostgres, DatabaseTest):
@@ -163,32 +164,27 @@ class PostgresLoads(Loads, OnPostgres, DatabaseTest):
     def test_loads_of_different_servers_go_on_side_by_side(self):
         base = self.fresh("beside")
         load("alder-2", "friday", base)
-        # The first one makes February's partition, and holds its transaction open. Who reads goes on.
+        # The first one has made February's partition, and holds its transaction open. Who reads goes on.
         first = driven("commit", "hold", words_of("alder-2", "end", base))
         self.assertEqual(first.stdout.readline(), "holding\n")
         self.assertEqual(self.asked(base, "SELECT count(*) FROM history"), [(self.town.servers["alder-2"].fronts[0],)])
-        # The second one needs February too.
-        second = driven("never", "hold", words_of("cedar-1", "friday", base))
-        self.waits(base, second, "mode = 'ShareUpdateExclusiveLock'")
-        for each in (first, second):
-            each.communicate("\n", TIME)
-        # Where the months are there, none waits.
-        third = driven("commit", "hold", words_of("birch-1", "end", base))
-        self.assertEqual(third.stdout.readline(), "holding\n")
+        # The months are there, so another one doesn't wait.
         self.assertEqual(load("cedar-1", "end", base).returncode, 0)
-        third.communicate("\n", TIME)
-        self.assertEqual([each.returncode for each in (first, second, third)], [0, 0, 0])
-        self.assertEqual(self.asked(base, "SELECT breach FROM violations"), [])
+        first.communicate("\n", TIME)
+        self.assertEqual(first.returncode, 0)
+        self.assertEqual(call("check", "--all", "--database", base).returncode, 0)
 
     def test_two_first_loads_make_the_tables_once(self):
         base = self.fresh("tables")
-        first = driven("commit", "hold", words_of("alder-1", "friday", base))
-        self.assertEqual(first.stdout.readline(), "holding\n")
-        second = driven("never", "hold", words_of("birch-1", "friday", base))
-        self.waits(base, second)
-        for each in (first, second):
-            each.communicate("\n", TIME)
-        self.assertEqual([each.returncode for each in (first, second)], [0, 0])
+        # Whoever makes the tables holds this lock.
+        with contextlib.closing(database.connect(base)) as opened:
+            opened.alone()
+            both = [driven("never", "hold", words_of(name, "friday", base)) for name in ("alder-1", "birch-1")]
+            for each in both:
+                self.waits(base, each)
+        for each in both:
+            each.communicate(timeout=TIME)
+        self.assertEqual([each.returncode for each in both], [0, 0])
         self.assertEqual(self.asked(base, "SELECT server FROM journals ORDER BY server"), [("alder-1",), ("birch-1",)])
 
     def test_a_load_whose_connection_is_cut_off_leaves_nothing(self):
@@ -206,15 +202,15 @@ class PostgresLoads(Loads, OnPostgres, DatabaseTest):
         base = self.fresh("months")
         load("birch-1", "end", base)
         self.assertEqual(self.asked(base, "SELECT relid::text FROM pg_partition_tree('touches') WHERE isleaf ORDER BY 1"),
-                         [("touches_2025_01",), ("touches_2025_02",)])
+                         [("touches_2025_01",), ("touches_2025_02",), ("touches_other",)])
         keys = self.asked(base, "SELECT indexdef FROM pg_indexes WHERE tablename = 'touches_2025_02'"
                                 " AND indexdef LIKE 'CREATE UNIQUE%' ORDER BY 1")
         self.assertEqual([text.rpartition(" (")[2] for text, in keys], ["journal, gate, number)", "journal, place)"])
 
     def test_the_schema_is_what_psql_takes(self):
         base = self.fresh("by_psql")
-        subprocess.run([postgres.programs() / "psql", base, "-q", "-v", "ON_ERROR_STOP=1", "-f", NETWORK / "schema.sql"],
-                       check=True, capture_output=True, timeout=TIME)
+        subprocess.run([postgres.programs() / "psql", base, "-q", "-v", "ON_ERROR_STOP=1", "-f", NETWORK / "schema.sql", "-f",
+                        NETWORK / "views.sql"], check=True, capture_output=True, timeout=TIME)
         self.assertEqual(load("alder-1", "end", base).returncode, 0)
 
 

@@ -2,11 +2,13 @@
 import contextlib
 import re
 import signal
+import tempfile
 import unittest
+from unittest import mock
 
 import town
 from network_base import (AT, DAYS, FLIPPED, NETWORK, TIME, VALUES, DatabaseTest, OnPostgres, OnSqlite, call,
-                          database, driven, everything, load, queries, words_of)
+                          accounts, database, driven, everything, load, queries, words_of)
 
 
 class Queries:
@@ -82,14 +84,26 @@ class Queries:
         self.assertEqual([row[1:3] for row in wanted], [(town.WRONG, town.GATE)])
         self.assertEqual(self.answered("clocks"), wanted)
 
+    def test_rows_one_by_one_are_those_at_once(self):
+        with contextlib.closing(database.reading(self.base)) as opened:
+            for name in queries.known():
+                with self.subTest(name):
+                    names, rows = queries.stream(opened, name, **VALUES, card=1)
+                    self.assertEqual((names, [*rows]), queries.ask(opened, name, **VALUES, card=1))
+            text = "SELECT 2 AS number, NULL AS missing, 'one, \"two\"\n%s' AS words WHERE :card = 1;"
+            names, rows = opened.stream(text, card=1)
+            self.assertEqual((names, [*rows]), (["number", "missing", "words"], [(2, None, 'one, "two"\n%s')]))
+
     def test_nothing_breaks_a_promise(self):
-        self.assertEqual(self.answered("violations"), [])
+        for words in ((), ("--all",)):
+            done = call("check", *words, "--database", self.base)
+            self.assertEqual((done.returncode, done.stdout, done.stderr), (0, "station,server,journal,place,breach\n", ""))
 
     def test_the_script_writes_the_answer_in_lines(self):
         done = call("query", "journeys", "--from", DAYS[0], "--to", DAYS[1], "--database", self.base)
         rows = [",".join(map(str, row)) for row in self.town.journeys(DAYS)]
         self.assertEqual((done.returncode, done.stdout.splitlines()),
-                         (0, ["station,quarter,journeys,paid_in,taken", *rows]))
+                         (0, ["station,quarter,journeys,paid_in,transferred,taken", *rows]))
         done = call("query", "inside", "--from", DAYS[0], "--at", town.moment_text(AT), "--database", self.base)
         self.assertEqual(len(done.stdout.splitlines()), 1 + len(self.town.inside(DAYS[0], AT - town.DAY)))
 
@@ -98,15 +112,15 @@ class Queries:
         for breach, *changes in self.breaches(last):
             with self.subTest(breach):
                 with contextlib.closing(database.connect(self.base)) as opened:
-                    opened.execute("BEGIN")
+                    opened.begin()
                     for change in changes:
                         opened.execute(change)
-                    found = queries.ask(opened, "violations")[1]
-                self.assertIn(("Birch", "birch-1", "station.journal"), {row[:3] for row in found})
-                self.assertIn(breach, {row[4] for row in found})
+                    journal = opened.row("SELECT journal FROM journals WHERE server = 'birch-1'")["journal"]
+                    found = accounts.check(opened, journal, everything=True)
+                self.assertIn(breach, {row[1] for row in found})
 
     def breaches(self, last):
-        """Changes of rows that pass every constraint, each with the breach that the view has to tell."""
+        """Changes of rows that pass every constraint, each with the breach that a check has to report."""
         of = "journal = (SELECT journal FROM journals WHERE server = 'birch-1')"
         touches = [*self.town.servers["birch-1"].touches(self.town.fronts["birch-1"])]
         into, out, issue, revision = (next(touch.place for touch in touches if touch.verdict == verdict)
@@ -122,6 +136,13 @@ class Queries:
             what="verdict = 'AlreadyIssued'", place=issue)
         yield "the verdict does not go with whether the card is inside", set_to.format(
             what="verdict = 'EnteredOverOpen'", place=into)
+        yield "the balance of the card was changed after its load", \
+            f"UPDATE balances SET balance = balance + 5, paid_in = paid_in + 5 WHERE {of} AND card = 1"
+        yield "the balance of the card was removed after its load", f"DELETE FROM balances WHERE {of} AND card = 1"
+        for change in (f"UPDATE gates SET times_back = times_back + 1 WHERE {of}", f"DELETE FROM gates WHERE {of}",
+                       f"UPDATE gates SET moment = '2030-01-01T00:00:00Z' WHERE {of}",
+                       f"UPDATE gates SET gate = 9 WHERE {of} AND gate = {town.GATE}"):
+            yield f"the row of gate {town.GATE} in gates was changed or removed after its load", change
         yield "travel of the card goes back", set_to.format(what="moment = '2025-01-31T00:00:00Z'", place=out)
         yield "a revision counts from a day with travel, or not above the last one", \
             f"UPDATE revisions SET first_day = 20119 WHERE {of}"
@@ -158,6 +179,28 @@ class Queries:
 class PostgresQueries(Queries, OnPostgres, DatabaseTest):
     """The same in PostgreSQL."""
 
+    def test_rows_one_by_one_are_read_by_several_processes(self):
+        with contextlib.closing(database.connect(self.base)) as opened:
+            opened.execute("CREATE FUNCTION process() RETURNS integer PARALLEL SAFE LANGUAGE plpgsql"
+                           " AS 'BEGIN RETURN pg_backend_pid(); END'")
+            for setting in ("parallel_setup_cost = 0", "parallel_tuple_cost = 0", "min_parallel_table_scan_size = 0",
+                            "parallel_leader_participation = off"):
+                opened.execute(f"SET {setting}")
+            found = [*opened.stream("SELECT DISTINCT process() AS process FROM touches")[1]]
+            self.assertGreater(len(found), 0)
+            self.assertNotIn((opened.connection.get_backend_pid(),), found)
+
+    def test_a_full_disk_is_told(self):
+        with contextlib.closing(database.connect(self.base)) as opened:
+            with mock.patch("tempfile.TemporaryFile", lambda *_, **__: open("/dev/full", "w+", encoding="utf-8")):
+                with self.assertRaisesRegex(database.Unfit, f"^{tempfile.gettempdir()}: No space left on device; .* TMPDIR$"):
+                    opened.stream("SELECT * FROM history")
+
+    def test_no_plan_is_compiled(self):
+        with contextlib.closing(database.connect(self.base)) as opened:
+            opened.rollback()
+            self.assertEqual(opened.table("SHOW jit")[1], [("off",)])
+
     def twice(self, of, free):
         """A touch is copied into another month, where no key sees it."""
         for breach, place, number in (("the gate and number stand twice", free, "number"),
@@ -184,7 +227,7 @@ class Words(unittest.TestCase):
         for base, said in (("/nowhere/network.db", "/nowhere/network.db: no such file"),
                            ("postgresql://127.0.0.1:1/none", "")):
             with self.subTest(base):
-                done = call("query", "violations", "--database", base)
+                done = call("query", "holdings", "--database", base)
                 self.assertEqual((done.returncode, done.stdout, "Traceback" in done.stderr), (1, "", False))
                 self.assertTrue(done.stderr.startswith(f"query: {said}"), done.stderr)
 
@@ -219,8 +262,31 @@ INSERT INTO touches
          LATERAL (SELECT * FROM (VALUES (0, 'in', 'Entered', -700), (1, 'out', 'Exited', 400), (2, 'in', 'LowBalance', 0),
                                         (3, 'out', 'ExitedUnstarted', -700)) AS given (turn, kind, verdict, change)
                   WHERE turn = place / 100 % 4) AS turned;
+INSERT INTO balances (journal, stage, card, place, state, balance, transferred, paid_in, charged)
+    SELECT journal, 'loaded', card, 2999, 'outside', 0, 0, 0, 0 FROM journals, generate_series(1, 1000) AS card;
+INSERT INTO gates (journal, stage, gate, moment, times_back)
+    SELECT journal, 'loaded', gate, now(), gate % 2 FROM journals, generate_series(1, 8) AS gate;
 ANALYZE;
 """
+
+
+# What is asked of each query for its plan: of a recent fare day.
+PLANNED = {"card": 1234, "first": "2025-02-27", "last": "2025-02-27", "day_before": "2025-02-28T00:00:00Z"}
+
+
+class SqlitePlans(OnSqlite, unittest.TestCase):
+    """Each query uses the indexes that it names, in SQLite."""
+
+    def test_each_query_uses_the_indexes_that_it_names(self):
+        with contextlib.closing(database.connect(self.fresh("plans"))) as opened:
+            opened.make_tables()
+            for name, query in queries.known().items():
+                plan = "; ".join(row[3] for row in opened.table(
+                    f"EXPLAIN QUERY PLAN {opened.own(query.text)}", **{wanted: PLANNED[wanted] for wanted in query.wanted})[1])
+                with self.subTest(name):
+                    for index in query.indexes:
+                        self.assertIn(f"INDEX {index.replace('balances_pkey', 'sqlite_autoindex_balances_1')}", plan)
+                    self.assertNotRegex(plan, r"SCAN (touches|entry|later)\b")
 
 
 class Plans(OnPostgres, DatabaseTest):
@@ -243,9 +309,8 @@ class Plans(OnPostgres, DatabaseTest):
 
     def indexes_of(self, query):
         """The names of the indexes in the plan of a query of a recent fare day."""
-        values = {"card": 1234, "first": "2025-02-27", "last": "2025-02-27", "day_before": "2025-02-28T00:00:00Z"}
         plan = self.asked(self.base, f"EXPLAIN (FORMAT JSON) {query.text}",
-                          **{name: values[name] for name in query.wanted})[0][0]
+                          **{name: PLANNED[name] for name in query.wanted})[0][0]
         parents = self.parents()
         return {parents.get(name, name) for name in re.findall(r"'Index Name': '(\w+)'", str(plan))}
 
@@ -258,7 +323,8 @@ class Plans(OnPostgres, DatabaseTest):
         named = {index for query in queries.known().values() for index in query.indexes}
         text = (NETWORK / "schema.sql").read_text()
         made = set(re.findall(r"^CREATE INDEX (\w+)", text, re.M))
-        self.assertEqual(made, named)
+        # The balances of the cards have their key alone.
+        self.assertEqual(made, named - {"balances_pkey"})
         # Each is above the words that name its queries.
         for index in made:
             words = re.search(rf"((?:^-- .*\n)+)CREATE INDEX {index} ", text, re.M)[1]

@@ -1,9 +1,10 @@
-"""A server over the plain model of the station, for the tests that plant faults: in its protocol, and in its fares."""
+"""A server over the reference model of the station, for the tests that plant faults: in its protocol, and in its fares."""
 import struct
 import threading
 
 import model
 import wire
+from listening import Door
 
 
 class Planted:
@@ -16,12 +17,13 @@ class Planted:
         self.described = next(station for station in wire.vectors() if station.name == server)
         self.station = self.described.model()
         self.whole, self.shown = None, None
-        self.listening, self.text = wire.listener(("127.0.0.1", 0))
-        threading.Thread(target=self.take, daemon=True).start()
+        # A test may put another serve in its place.
+        self.door = Door(lambda connection: self.serve(connection))
+        self.text = self.door.text
 
     def end(self):
         """Takes no connection any more."""
-        self.listening.close()
+        self.door.shut()
 
     def lose(self, lost, tells_all=False):
         """Begins anew with what it had when this was called first, but for the touches of these places, as a server
@@ -33,14 +35,6 @@ class Planted:
             if place not in lost:
                 self.station.answer(frame)
         self.shown = shown if tells_all else None
-
-    def take(self):
-        while True:
-            try:
-                connection, _ = self.listening.accept()
-            except OSError:
-                return
-            threading.Thread(target=self.serve, args=(connection,), daemon=True).start()
 
     def answer(self, frame):
         with self.lock:

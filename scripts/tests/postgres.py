@@ -1,4 +1,4 @@
-"""A PostgreSQL of one's own, for tests and measuring: in a fresh folder, on a free port of 127.0.0.1."""
+"""A separate PostgreSQL for tests and measuring: in a fresh folder, on a free port of 127.0.0.1."""
 import os
 import pathlib
 import pwd

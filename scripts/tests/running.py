@@ -20,7 +20,11 @@ class Server:
         words += [*more, *map(str, revised)]
         self.process = subprocess.Popen([PROGRAM, *words], stdin=subprocess.DEVNULL, stdout=subprocess.PIPE,
                                         stderr=subprocess.PIPE, **options)
-        said = first_line(self.process.stderr)
+        # The notes that it began with.
+        self.notes, said = [], first_line(self.process.stderr)
+        while said.startswith("note: "):
+            self.notes.append(said.rstrip("\n"))
+            said = first_line(self.process.stderr)
         if not said.startswith("listening "):
             raise AssertionError(f"the server said {said!r}, status {self.process.wait(TIME)}")
         host, _, port = said.split()[1].rpartition(":")

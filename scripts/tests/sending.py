@@ -1,10 +1,12 @@
-"""What the tests of gate_send share: a folder with a gate's file and a station's journal, and touches with what they are
-answered."""
+"""Shared by the tests of gate_send: a folder with a gate's file and a server's journal, and touches with their
+answers."""
 import pathlib
 import shutil
+import socket
 import struct
 import subprocess
 import tempfile
+import threading
 
 import harness
 import model
@@ -55,6 +57,13 @@ class SendTest(harness.ProgramTest):
         done = subprocess.run(words, input=given, capture_output=True, text=True, timeout=TIME)
         return done.returncode, done.stdout.splitlines(), done.stderr
 
+    def assertFault(self, ended, fault, out=()):
+        status, said, err = ended
+        self.assertEqual((status, said, err.splitlines()[0] if err else ""), (1, list(out), fault), err)
+        behind = err.splitlines()[1:]
+        self.assertTrue(all(line.startswith("  ") for line in behind), err)
+        return behind
+
     def history(self):
         """The station's history, each row from the field of the gate on."""
         journal = self.folder / "copied"
@@ -66,6 +75,35 @@ class SendTest(harness.ProgramTest):
     def kept(self):
         """The frames of the touches in the gate's file."""
         return touches_in(self.file.read_bytes(), tag(7)) or [] if self.file.is_file() else []
+
+
+class Scripted:
+    """A station that answers each request by the next of some bytes, and hangs up where these are None."""
+
+    def __init__(self, answers):
+        self.answers, self.requests = list(answers), []
+        self.listening = socket.create_server(("127.0.0.1", 0))
+        self.address = f"127.0.0.1:{self.listening.getsockname()[1]}"
+        threading.Thread(target=self.serve, daemon=True).start()
+
+    def serve(self):
+        while self.answers:
+            gate, _ = self.listening.accept()
+            with gate:
+                while self.answers:
+                    head = gate.recv(2, socket.MSG_WAITALL)
+                    if len(head) < 2:
+                        break
+                    self.requests.append(head + gate.recv(int.from_bytes(head, "big"), socket.MSG_WAITALL))
+                    answer = self.answers.pop(0)
+                    if answer is None:
+                        break
+                    gate.sendall(answer)
+        self.listening.close()
+
+
+def reply(number, verdict, change, balance, gate=7):
+    return model.framed(">BHIBiq", model.REPLY, gate, number, verdict, change, balance)
 
 
 def touches_in(data, digest):

@@ -1,4 +1,4 @@
-"""Interactive shells with the package's completion, on terminals of their own: what the tabulator makes of a line."""
+"""Interactive shells with the package's completion, on separate terminals: how the tabulator completes a line."""
 import os
 import pty
 import re

@@ -1,4 +1,4 @@
-"""What a page shows: its commands, each with the lines that stand behind it, and a shell that runs them in turn."""
+"""The commands that a page shows, each with the lines of output that follow it, and a shell that runs them in turn."""
 import contextlib
 import os
 import pathlib
@@ -18,6 +18,8 @@ BLOCK = re.compile(r"^(?P<indent> *)```\n(?P<text>(?P=indent)\$ .*?)^(?P=indent)
 # What differs from run to run, with what stands in its place where a page is compared with what was said.
 DIFFERS = (
     ("the time of an answer", re.compile(r"answered in [0-9.]+ ms"), "answered in TIME"),
+    ("the clock of a screen", re.compile(r"^time        \S+Z$", re.M), "time        CLOCK"),
+    ("the room on a disk", re.compile(r"^disk        \S+ \S+ free; the journal needs .*$", re.M), "disk        ROOM"),
     ("a carriage return, which a page can't show", re.compile(r"\r"), ""),
 )
 # The ports of the pages: a free one stands in the place of each.

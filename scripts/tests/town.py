@@ -1,7 +1,8 @@
-"""A network of six servers with generated days, and what a plain program works out of its requests: for scripts/tests/network.
+"""A network of six servers with generated days, and the answers that a reference program calculates from its requests: for
+scripts/tests/network.
 
-The answers expected of queries are made of the requests by scripts/model.py, and of nothing that the program or a
-database has said.
+The answers expected of queries are made from the requests by scripts/model.py, and from no output of the program or of a
+database.
 """
 import collections
 import datetime
@@ -137,20 +138,21 @@ class Town:
             sums[key][touch.act != "top-up"] += touch.change
             if touch.act in ("in", "out"):
                 states[key] = "inside" if touch.act == "in" else "outside"
-        return [(*key, states[key], paid + travel, paid, -travel) for key, (paid, travel) in sums.items()]
+        # Nothing was transferred into these journals.
+        return [(*key, states[key], paid + travel, 0, paid, -travel) for key, (paid, travel) in sums.items()]
 
     def holdings(self):
         # Each card of this network is on one server.
         return [(card, 1, int(state == "inside"), *money) for card, _, _, _, state, *money in sorted(self.all_held())]
 
     def journeys(self, days):
-        sums = collections.defaultdict(lambda: [0, 0, 0])
+        sums = collections.defaultdict(lambda: [0, 0, 0, 0])
         for touch in self.touches():
             if touch.day in days and touch.accepted and touch.act != "revision":
                 row = sums[touch.station, moment_text(touch.moment // 900 * 900)]
                 row[0] += touch.verdict in ("Entered", "EnteredOverOpen")
                 row[1] += touch.change if touch.act == "top-up" else 0
-                row[2] -= touch.change if touch.act in ("in", "out") else 0
+                row[3] -= touch.change if touch.act in ("in", "out") else 0
         return [(*key, *row) for key, row in sorted(sums.items())]
 
     def refusals(self, days):

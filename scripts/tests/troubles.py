@@ -1,4 +1,4 @@
-"""What a server, or the line to it, may do to a gate that asks for four touches: scripts of scripts/stand-in. For
+"""Scripts of scripts/stand-in: what a server, or the connection to it, may do to a gate that asks for four touches. For
 scripts/tests/gate-library and scripts/tests/gate-sends."""
 
 # By what it is: its steps. Behind them each answer is as the rules have it.

@@ -1,0 +1,207 @@
+# SPDX-License-Identifier: Apache-2.0
+"""The counts of scripts/day-report over a station's history: the touches of a fare day or of a whole file, with what the
+days around it show about them."""
+import collections
+import datetime
+import hashlib
+
+from history_rows import ACCEPTED, Chain, rows_of
+
+REFUSALS = {
+    # generated: refusals
+    "UnknownCard": "no such card, or it wasn't issued", "AlreadyIssued": "the card was issued before",
+    "UnknownStation": "no such station", "Backwards": "earlier than the card's last touch in or out",
+    "LowBalance": "the balance is below the entry minimum", "BadAmount": "no amount that can be paid in",
+    "OverLimit": "above the balance limit", "BadDay": "a day with travel, or not above the last revision's",
+    # end: refusals
+}
+MAXIMA = {"EnteredOverOpen": "a touch in was left open", "ExitedUnstarted": "a touch out without a touch in",
+          "ExitedLate": "a touch out too late for its touch in"}
+# Why a touch was charged a maximum, by the verdict of the touch that tells it and by whether it is one in or out.
+REASONS = {("EnteredOverOpen", "in"): "no touch out followed: the next was another touch in",
+           ("ExitedLate", "in"): "its touch out came too late",
+           ("ExitedLate", "out"): "too late for its touch in",
+           ("ExitedUnstarted", "out"): "no touch in before it"}
+# When a fare day begins, and how many quarters of an hour it is cut into.
+BEGINS, QUARTERS = datetime.timedelta(hours=4, minutes=30), 96
+ACTS = ("in", "out", "top-up", "issue")
+# How many cards stand among those charged most, and on how many days before a gate is looked for that is silent.
+MOST, WEEK = 10, 7
+
+Maximum = collections.namedtuple("Maximum", "row entry at_entry at_exit")
+# A maximum that was charged: the touch that was charged it, the touch that tells so, and the pence.
+Charge = collections.namedtuple("Charge", "touch told pence")
+
+
+class Tally:
+    """What is counted of the rows that a page is of."""
+
+    def __init__(self, zone):
+        self.zone, self.rows, self.strange = zone, 0, 0
+        self.touches = {act: [0] * QUARTERS for act in ACTS}
+        # Of these the ones in an hour that the clock showed for the second time.
+        self.second = {act: [0] * QUARTERS for act in ACTS}
+        self.verdicts, self.maxima, self.revisions = collections.Counter(), [], []
+        # The cards whose last touch is one in, with what that was charged, and with that touch.
+        self.inside, self.open = {}, {}
+        # Paid in and charged, by quarter of an hour since 1970, by fare day and by card; and touches by these two.
+        self.by_quarter, self.by_day, self.by_card = {}, {}, {}
+        self.touches_by_day, self.touches_by_card = collections.Counter(), collections.Counter()
+
+    def add(self, row, entry):
+        """Counts a row; `entry` is the card's open touch in before it, where the file has it."""
+        self.rows += 1
+        self.verdicts[row.verdict] += 1
+        if row.act == "revision":
+            self.revisions.append(row)
+            return
+        shown = datetime.datetime.fromtimestamp(row.moment, self.zone)
+        begun = shown - BEGINS
+        self.strange += begun.date().isoformat() != row.day
+        self.touches[row.act][4 * begun.hour + begun.minute // 15] += 1
+        self.second[row.act][4 * begun.hour + begun.minute // 15] += shown.fold
+        self.touches_by_day[row.day] += 1
+        accepted = row.verdict in ACCEPTED[row.act]
+        if accepted:
+            self.touches_by_card[row.card] += 1
+        for sums, key in ((self.by_quarter, row.moment // 900), (self.by_day, row.day), (self.by_card, row.card)):
+            paid, charged = sums.get(key, (0, 0))
+            sums[key] = (paid + row.change, charged) if row.act == "top-up" else (paid, charged - row.change)
+        if accepted and row.act in ("in", "out"):
+            self.travel(row, entry)
+
+    def travel(self, row, entry):
+        """Counts an accepted touch in or out."""
+        if row.verdict in MAXIMA:
+            at_entry = None if row.verdict == "ExitedUnstarted" or entry is None else -entry.change
+            at_exit = -row.change if row.act == "out" else 0
+            self.maxima.append(Maximum(row, entry if at_entry is not None else None, at_entry or 0, at_exit))
+        if row.act == "in":
+            self.inside[row.card], self.open[row.card] = -row.change, row
+        else:
+            self.inside.pop(row.card, None)
+            self.open.pop(row.card, None)
+
+    def money(self):
+        """Paid in and charged, in pence."""
+        return tuple(sum(pair[place] for pair in self.by_day.values()) for place in (0, 1))
+
+    def refused(self):
+        """How many touches were refused, by verdict, in the order of their codes."""
+        return {name: self.verdicts[name] for name in REFUSALS}
+
+    def most_charged(self):
+        """The ten cards that were charged most, each with what was paid in and charged. Of equal ones the lower comes
+        first."""
+        charged = [(card, pair) for card, pair in self.by_card.items() if pair[1] > 0]
+        return sorted(charged, key=lambda row: (-row[1][1], row[0]))[:MOST]
+
+    def cut_off(self):
+        """Of the cards that were charged as much as the last of these ten: how many there are, and how many stand among
+        the ten. None where all do."""
+        shown = self.most_charged()
+        if len(shown) < MOST:
+            return None
+        least = shown[-1][1][1]
+        equal = sum(pair[1] == least for pair in self.by_card.values())
+        among = sum(pair[1] == least for _, pair in shown)
+        return (equal, among) if equal > among else None
+
+    def maxima_of(self, verdict):
+        """The journeys of a verdict that cost a maximum: how many, how many of their touches in aren't in the file, and
+        the pence that were charged at the touch in and at the touch out."""
+        found = [each for each in self.maxima if each.row.verdict == verdict]
+        lost = sum(each.entry is None for each in found) if verdict != "ExitedUnstarted" else 0
+        return len(found), lost, sum(each.at_entry for each in found), sum(each.at_exit for each in found)
+
+    def days(self):
+        """The fare days of the touches, in order."""
+        return sorted(self.touches_by_day)
+
+    def cards(self):
+        """How many touches of cards there are, and how many of them were refused."""
+        refused = sum(self.refused().values()) - self.verdicts["BadDay"]
+        return sum(map(sum, self.touches.values())), refused
+
+
+def charges_of(row, entry):
+    """The maxima that this touch tells: its own, and that of the card's open touch in before it, where the file has it."""
+    found = []
+    if row.verdict in ("EnteredOverOpen", "ExitedLate") and entry is not None:
+        found.append(Charge(entry, row, -entry.change))
+    if row.verdict in ("ExitedLate", "ExitedUnstarted"):
+        found.append(Charge(row, row, -row.change))
+    return found
+
+
+def days_before(day, count):
+    """The date so many days before."""
+    return (datetime.date.fromisoformat(day) - datetime.timedelta(count)).isoformat()
+
+
+class Report:
+    """What a page is of: a fare day, or all of a file where none is named, and what other days tell of it."""
+
+    def __init__(self, day, zone):
+        self.day, self.tally = day, Tally(zone)
+        # The same weekday before.
+        self.before = Tally(zone) if day else None
+        # Each maximum, under the day of the touch that was charged it; and how many touches in of earlier days aren't in
+        # the file.
+        self.charges, self.lost = [], 0
+        # Of each gate its days, and its last touch up to the end of the day.
+        self.gate_days, self.gate_last = collections.defaultdict(set), {}
+        # The next touch in or out of a card behind the day, where the file has it, and the last day of the file.
+        self.next, self.last_day = {}, None
+
+    def add(self, row, entry):
+        """Counts a row of the file; `entry` is the card's open touch in before it."""
+        if self.day in (None, row.day):
+            self.tally.add(row, entry)
+        elif row.day == days_before(self.day, WEEK):
+            self.before.add(row, entry)
+        if row.act == "revision":
+            return
+        self.last_day = max(self.last_day or row.day, row.day)
+        self.gate_days[row.gate].add(row.day)
+        if self.day is None or row.day <= self.day:
+            self.gate_last[row.gate] = row
+        if row.act in ("in", "out") and row.verdict in ACCEPTED[row.act]:
+            self.charges += charges_of(row, entry)
+            is_lost = row.verdict in ("EnteredOverOpen", "ExitedLate") and entry is None
+            self.lost += is_lost and self.day in (None, row.day)
+            if self.day is not None and row.day > self.day:
+                self.next.setdefault(row.card, row)
+
+    def maxima(self, day=None):
+        """The maxima that touches of a day were charged, or of the page's own, in the order of these touches."""
+        day = day or self.day
+        return sorted((each for each in self.charges if day in (None, each.touch.day)),
+                      key=lambda each: each.touch.place)
+
+    def silent(self):
+        """The gates without a touch on the day, or on the file's last one, which had one in the seven days before: each
+        with its last touch."""
+        day = self.day or self.last_day
+        if day is None:
+            return []
+        first = days_before(day, WEEK)
+        return [(gate, self.gate_last[gate]) for gate, days in sorted(self.gate_days.items())
+                if day not in days and any(first <= other < day for other in days)]
+
+    def gates(self):
+        """How many gates had a touch on the day, or on the file's last one."""
+        day = self.day or self.last_day
+        return sum(day in days for days in self.gate_days.values())
+
+    def open(self):
+        """The touches in that were open at the end, each with the card's next touch, where the file has it."""
+        return [(row, self.next.get(card)) for card, row in sorted(self.tally.open.items())]
+
+
+def read(path, day, zone, is_part=False):
+    """The report of a file's rows, and the digest of the file's bytes."""
+    digest, report = hashlib.sha256(), Report(day, zone)
+    for row, entry in rows_of(path, Chain(is_part, day is None), digest, "day-report"):
+        report.add(row, entry)
+    return report, digest.hexdigest()
