@@ -75,7 +75,11 @@ pub(crate) fn send_lines<
     if let Some(touch) = run.client.waiting() {
         run.settle(&touch)?;
     }
-    if asked.resends { Ok(Sent::All) } else { run.lines() }
+    if asked.resends {
+        Ok(Sent::All)
+    } else {
+        run.lines()
+    }
 }
 
 impl<
