@@ -11,7 +11,7 @@ ghost use Rattle.journal_commands.specs.Verified.{HasEndedEarly, HasVerifiedAs, 
 ghost use Rattle.journal_commands.specs.Verified.{HasVerifiedFile, HasEndedFileEarly, IsFileUnread};
 
 use crate::fault::CommandFault;
-use crate::settled::settled_bytes;
+use crate::settled::settled_file;
 use command_line::{Seal as AskedSeal, Sealed as NamedSeal, Verify};
 use fare_schedule::Schedule;
 use journal_audit::{Asked, Finding, Seal, Sealed, audit_gate_file, audit_journal};
@@ -63,9 +63,9 @@ fn verify_station<R: AllocGlobal + Eprint, F: WholeFiles, W: Write>(
 {
     let alloc = rt.alloc();
     let schedule = tables_asked(alloc, files, asked)?;
-    let bytes = settled_bytes(rt, files, asked.journal)?;
+    let read = settled_file(rt, files, asked.journal)?;
     let wanted = asked_of(asked);
-    let found = audit_journal(alloc, schedule, wanted, &bytes, writer)?;
+    let found = audit_journal(alloc, schedule, wanted, &read.bytes, writer)?;
     Ok(ExitCode::from(status_of(found)))
 }
 
@@ -83,9 +83,9 @@ fn verify_gate_file<R: AllocGlobal + Eprint, F: WholeFiles, W: Write>(
         ⊎ HasEndedFileEarly (F.gave files.now) asked.now gate
         (W.contents writer.old) (W.contents writer.new) fault) }
 {
-    let content = settled_bytes(rt, files, asked.journal)?;
+    let content = settled_file(rt, files, asked.journal)?;
     let wanted = asked_of(asked);
-    let found = audit_gate_file(rt.alloc(), gate, wanted, &content, writer)?;
+    let found = audit_gate_file(rt.alloc(), gate, wanted, &content.bytes, writer)?;
     Ok(ExitCode::from(status_of(found)))
 }
 

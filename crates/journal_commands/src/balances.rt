@@ -10,7 +10,9 @@ ghost use Rattle.journal_commands.specs.Words.{HasTold, IsUnread};
 ghost use Rattle.journal_commands.specs.declared.fault.CommandFault.TheVariants.{Output};
 ghost use Rattle.table_commands.specs.declared.detail.Detail.{Detail};
 
+use crate::behind::tell_many;
 use crate::fault::CommandFault;
+use crate::settled::settled_file;
 use command_line::Balances;
 use journal_audit::{Totals, write_balances};
 use std::alloc::Global;
@@ -24,7 +26,9 @@ use table_commands::{Detail, Refusal, WholeFiles, tables_in};
 /// written.
 ///
 /// The tables are looked at first, and then the journal's file. It is opened for reading alone, and
-/// isn't locked: a server may go on with it. It is read to its end before anything is written.
+/// isn't locked: a server may go on with it. It is read to its end before anything is written, and
+/// read again where it changed meanwhile and looks damaged. More open slots behind the journal's
+/// end than crashes leave are noted on standard error before the sums.
 pub fn tell_balances<R: AllocGlobal + Eprint, F: WholeFiles, W: Write>(
     rt: &R,
     files: &F,
@@ -51,8 +55,9 @@ pub fn tell_balances<R: AllocGlobal + Eprint, F: WholeFiles, W: Write>(
 {
     let alloc = rt.alloc();
     let schedule = tables_in(alloc, files, Some(asked.table), asked.revisions.as_slice())?;
-    let bytes = files.bytes_in(alloc, asked.journal)?;
-    let totals = write_balances(alloc, schedule, asked.at, &bytes, writer)?;
+    let read = settled_file(rt, files, asked.journal)?;
+    let totals = write_balances(alloc, schedule, asked.at, &read.bytes, writer)?;
+    tell_many(rt, read.behind);
     match tell_totals(rt, &totals) {
         Ok(()) => Ok(ExitCode::SUCCESS),
         Err(error) => Err(sums_fault(alloc, &error)),

@@ -38,13 +38,13 @@ pub(crate) fn verify<R: AllocGlobal + Eprint, F: WholeFiles, W: Write>(
 }
 
 /// Tells a journal's touches, each with its judgement.
-pub(crate) fn history<R: AllocGlobal, F: WholeFiles, W: Write>(
+pub(crate) fn history<R: AllocGlobal + Eprint, F: WholeFiles, W: Write>(
     rt: &R,
     files: &F,
     asked: &History<'_>,
     output: &mut W,
 ) -> Result<ExitCode, CommandFault> {
-    match tell_history(rt.alloc(), files, asked, output) {
+    match tell_history(rt, files, asked, output) {
         Ok(status) => Ok(status),
         Err(fault) => Err(explained(rt.alloc(), files, OpenedBy::history(asked), fault)),
     }

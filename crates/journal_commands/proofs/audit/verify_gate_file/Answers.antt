@@ -15,7 +15,7 @@ returns-in_err-found-clause-fault g c =
     (inr (
       c.in_err-found.field-0.0,
       refl,
-      record { bytes = c.in_ok-content.content.items; given = c.in_ok-content.ensures.ok; says = told },
+      record { bytes = c.in_ok-content.content.bytes.items; given = c.in_ok-content.ensures.ok; says = told },
     ))
 
 -- a gate's file was told whole, and the status is that of what was found
@@ -25,7 +25,7 @@ returns-clause-ok g c =
     let told = rw c.deref.ensures.value at asked in
     let status : exit_status c.from.result ≡ status_of c.in_ok-found.found = c.from.ensures ∙ c.status_of.ensures in
     record {
-      bytes = c.in_ok-content.content.items;
+      bytes = c.in_ok-content.content.bytes.items;
       given = c.in_ok-content.ensures.ok;
       says = record { text = told.text; appended = told.appended; says = (c.in_ok-found.found, told.says, status) };
     }

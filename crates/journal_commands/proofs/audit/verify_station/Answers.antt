@@ -20,7 +20,7 @@ returns-in_err-found-clause-fault g c =
       record {
         tables = option_map tables_in c.in_ok-schedule.schedule;
         asked = c.in_ok-schedule.ensures.ok;
-        written = record { bytes = c.in_ok-bytes.bytes.items; given = c.in_ok-bytes.ensures.ok; says = told };
+        written = record { bytes = c.in_ok-read.read.bytes.items; given = c.in_ok-read.ensures.ok; says = told };
       },
     ))
 
@@ -34,8 +34,8 @@ returns-clause-ok g c =
       tables = option_map tables_in c.in_ok-schedule.schedule;
       asked = c.in_ok-schedule.ensures.ok;
       written = record {
-        bytes = c.in_ok-bytes.bytes.items;
-        given = c.in_ok-bytes.ensures.ok;
+        bytes = c.in_ok-read.read.bytes.items;
+        given = c.in_ok-read.ensures.ok;
         says = record { text = told.text; appended = told.appended; says = (c.in_ok-found.found, told.says, status) };
       };
     }

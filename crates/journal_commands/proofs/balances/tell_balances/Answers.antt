@@ -25,7 +25,7 @@ returns-in_err-totals-clause-fault g c =
       record {
         tables = tables_in c.in_ok-schedule.schedule;
         named = named;
-        says = record { bytes = c.in_ok-bytes.bytes.items; given = c.in_ok-bytes.ensures.ok; says = told };
+        says = record { bytes = c.in_ok-read.read.bytes.items; given = c.in_ok-read.ensures.ok; says = told };
       },
     )))
 
@@ -38,8 +38,8 @@ returns-in-Ok-clause-ok g c =
       tables = tables_in c.in_ok-schedule.schedule;
       named = named;
       says = record {
-        bytes = c.in_ok-bytes.bytes.items;
-        given = c.in_ok-bytes.ensures.ok;
+        bytes = c.in_ok-read.read.bytes.items;
+        given = c.in_ok-read.ensures.ok;
         says = record { text = told.text; appended = told.appended; says = (c.in_ok-totals.totals, told.says) };
       };
     }
@@ -56,8 +56,8 @@ returns-clause-fault g c =
         tables = tables_in c.in_ok-schedule.schedule;
         named = named;
         says = record {
-          bytes = c.in_ok-bytes.bytes.items;
-          given = c.in_ok-bytes.ensures.ok;
+          bytes = c.in_ok-read.read.bytes.items;
+          given = c.in_ok-read.ensures.ok;
           says = record { text = told.text; appended = told.appended; says = (c.in_ok-totals.totals, told.says) };
         };
       },

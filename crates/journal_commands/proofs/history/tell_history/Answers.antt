@@ -26,7 +26,7 @@ returns-in_err-write_history-clause-fault g c =
       record {
         tables = tables_in c.in_ok-schedule.schedule;
         named = named;
-        says = record { bytes = c.in_ok-bytes.bytes.items; given = c.in_ok-bytes.ensures.ok; says = told };
+        says = record { bytes = c.in_ok-bytes.field-0.bytes.items; given = c.in_ok-bytes.ensures.ok; says = told };
       },
     ))
 
@@ -39,5 +39,5 @@ returns-clause-ok g c =
     record {
       tables = tables_in c.in_ok-schedule.schedule;
       named = named;
-      says = record { bytes = c.in_ok-bytes.bytes.items; given = c.in_ok-bytes.ensures.ok; says = told };
+      says = record { bytes = c.in_ok-bytes.field-0.bytes.items; given = c.in_ok-bytes.ensures.ok; says = told };
     }
