@@ -316,12 +316,19 @@ def is_postgres(name):
 
 def connect(name):
     """The database of this name: a URL or a connection string of PostgreSQL, or SQLite's file."""
-    return Postgres(name) if is_postgres(name) else Sqlite(name)
+    if is_postgres(name):
+        return Postgres(name)
+    path = pathlib.Path(name)
+    if path.exists() and not path.is_file():
+        # In the words of docs/FAULTS.md, "The second line".
+        raise Unfit(f"{name}: {'is a folder' if path.is_dir() else 'is a device or a pipe'}; name SQLite's file, or a URL"
+                    " postgresql://..")
+    return Sqlite(name)
 
 
 def existing(name):
     """The same, which has to be there."""
-    if not is_postgres(name) and not pathlib.Path(name).is_file():
+    if not is_postgres(name) and not pathlib.Path(name).exists():
         raise Unfit(f"{name}: no such file; network/load makes it, or name the database by --database")
     return connect(name)
 

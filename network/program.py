@@ -3,10 +3,13 @@
 
 It needs nothing but Python and the program, so that a task of it can be sent to another machine.
 """
+import errno
 import hashlib
+import os
 import pathlib
 import re
 import shutil
+import stat
 import subprocess
 
 # The header of a journal and the slots of its two formats, in bytes; the mark of a slot that counts; where a slot has its
@@ -52,10 +55,25 @@ def said(program, *words, output=subprocess.PIPE):
     return (done.stdout or b"").decode(), told
 
 
+def opened(path):
+    """A file, opened to be read. A pipe would make the reader wait, and a device may have no end: both are refused at once,
+    in the words of docs/FAULTS.md, "The second line"."""
+    mode = os.stat(path).st_mode
+    if not stat.S_ISREG(mode):
+        words = "is a folder" if stat.S_ISDIR(mode) else "is a device or a pipe"
+        raise OSError(errno.EINVAL, f"{words}; name a file", str(path))
+    return open(path, "rb")
+
+
+def content_of(path):
+    with opened(path) as file:
+        return file.read()
+
+
 def named_tables(journal):
     """The digests that a journal's file names: that of its first table, and of each revision's, in their order. Of a file
     that is no journal there may be none: the program says what it is."""
-    content = pathlib.Path(journal).read_bytes()
+    content = content_of(journal)
     size = SLOTS.get(content[1:9])
     if size is None or len(content) < HEADER:
         return []
@@ -79,7 +97,7 @@ def words_of_tables(journal, tables):
 
 def by_digest(files):
     """The files of fare tables, by the digests of their bytes."""
-    return {hashlib.sha256(pathlib.Path(file).read_bytes()).hexdigest(): str(file) for file in files}
+    return {hashlib.sha256(content_of(file)).hexdigest(): str(file) for file in files}
 
 
 def verified(program, journal, tables, seal=None):
@@ -102,7 +120,7 @@ def open_behind(facts):
 
 def sealed(journal, size):
     """The SHA-256 digest of a file's first bytes, so many."""
-    with open(journal, "rb") as file:
+    with opened(journal) as file:
         return hashlib.sha256(file.read(size)).hexdigest()
 
 
@@ -153,7 +171,7 @@ def matches(journal, seal):
 def beginning(journal):
     """The digest of a journal's header and its first touch, or None where it has no touch."""
     size = slot_size(journal)
-    with open(journal, "rb") as file:
+    with opened(journal) as file:
         content = file.read(HEADER + (size or 0))
     if size is None or len(content) < HEADER + size or content[HEADER:HEADER + 1] != MARK:
         return None
@@ -162,5 +180,5 @@ def beginning(journal):
 
 def slot_size(journal):
     """The bytes of a journal's slots, by its format; None where the file is no journal."""
-    with open(journal, "rb") as file:
+    with opened(journal) as file:
         return SLOTS.get(file.read(9)[1:])

@@ -77,7 +77,7 @@ class Rows:
 def copied(journal):
     """A copy of a journal: its path, and the descriptor that its readers have to inherit. The file has no name, so whatever
     ends this process removes it."""
-    with tempfile.TemporaryFile() as copy, open(journal, "rb") as file:
+    with tempfile.TemporaryFile() as copy, program.opened(journal) as file:
         shutil.copyfileobj(file, copy, PIECE)
         copy.flush()
         yield program.Inherited(f"/dev/fd/{copy.fileno()}")

@@ -10,6 +10,8 @@ import json
 import pathlib
 import re
 
+import program
+
 # How copies of a journal are named (docs/OPERATING.md, "Nightly copies and seals"), and what a server's own journal is named.
 COPY = r"(?:\.journal)?(?:[-.]\d{8}(?:T\d{6}Z)?|-\d{4}-\d\d-\d\d)?(?:\.journal)?"
 USUAL = ("station", "journal", "")
@@ -44,7 +46,7 @@ def asked_for(arguments):
 def read(path):
     """The last report, or an empty one."""
     try:
-        report = json.loads(pathlib.Path(path).read_text())
+        report = json.loads(program.content_of(path))
     except FileNotFoundError:
         return {}
     except ValueError as error:
