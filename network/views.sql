@@ -44,7 +44,7 @@ SELECT servers.station, servers.name AS server, servers.first_card, journals.clo
        act = 'top-up' AND gate = transfer_gate AS transfer,
        /*pg*/ date_bin('15 minutes', moment, TIMESTAMPTZ '1970-01-01 00:00:00Z') AS quarter,
        extract(epoch FROM moment)::bigint AS seconds /*end*/
-       /*sqlite strftime('%Y-%m-%dT%H:%M:%SZ', strftime('%s', moment) / 900 * 900, 'unixepoch') AS quarter,
+       /*sqlite substr(moment, 1, 14) || substr('00153045', 1 + 2 * (substr(moment, 15, 2) / 15), 2) || ':00Z' AS quarter,
        CAST(strftime('%s', moment) AS integer) AS seconds */
 FROM touches
 JOIN journals ON journals.journal = touches.journal

@@ -272,6 +272,8 @@ ANALYZE;
 
 # What is asked of each query for its plan: of a recent fare day.
 PLANNED = {"card": 1234, "first": "2025-02-27", "last": "2025-02-27", "day_before": "2025-02-28T00:00:00Z"}
+# The queries that read the touches of some fare days in one pass, and no other touches.
+ONE_PASS = ("journeys", "refusals", "clocks")
 
 
 class SqlitePlans(OnSqlite, unittest.TestCase):
@@ -287,6 +289,9 @@ class SqlitePlans(OnSqlite, unittest.TestCase):
                     for index in query.indexes:
                         self.assertIn(f"INDEX {index.replace('balances_pkey', 'sqlite_autoindex_balances_1')}", plan)
                     self.assertNotRegex(plan, r"SCAN (touches|entry|later)\b")
+                    if name in ONE_PASS:
+                        self.assertEqual(re.findall(r"\btouches USING .*?(?=;)", plan),
+                                         ["touches USING INDEX touches_day (day>? AND day<?)"])
 
 
 class Plans(OnPostgres, DatabaseTest):
@@ -318,6 +323,13 @@ class Plans(OnPostgres, DatabaseTest):
         for name, query in queries.known().items():
             with self.subTest(name):
                 self.assertLessEqual(set(query.indexes), self.indexes_of(query))
+
+    def test_a_sum_over_fare_days_is_one_pass(self):
+        for name in ONE_PASS:
+            query = queries.known()[name]
+            plan = self.asked(self.base, f"EXPLAIN {query.text}", **{wanted: PLANNED[wanted] for wanted in query.wanted})
+            with self.subTest(name):
+                self.assertEqual(re.findall(r" on (touches\w+)", str(plan)).count("touches_2025_02"), 1, plan)
 
     def test_there_is_no_index_but_keys_and_those_that_queries_name(self):
         named = {index for query in queries.known().values() for index in query.indexes}
