@@ -1,5 +1,7 @@
 # SPDX-License-Identifier: Apache-2.0
-"""The standard output of a command, whose reader may end before it."""
+"""What a command writes: its standard output, whose reader may end before it, and files that are written whole or not at
+all."""
+import contextlib
 import os
 import sys
 
@@ -18,3 +20,19 @@ def run(main):
         # The rest of the output has nowhere to go.
         os.dup2(os.open(os.devnull, os.O_WRONLY), sys.stdout.fileno())
         sys.exit(NO_READER)
+
+
+@contextlib.contextmanager
+def whole(path):
+    """A file that replaces the one of this path once it is whole and on the disk. Whatever ends this process earlier, or
+    fails, leaves the old one."""
+    new = path.with_name(f"{path.name}.new")
+    try:
+        with open(new, "w", encoding="utf-8", newline="") as file:
+            yield file
+            file.flush()
+            os.fsync(file.fileno())
+        new.replace(path)
+    except BaseException:
+        new.unlink(missing_ok=True)
+        raise
