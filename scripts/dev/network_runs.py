@@ -1,0 +1,60 @@
+"""Runs of the commands in network/ that are measured, and what they leave in PostgreSQL: for scripts/dev/measure-network and
+scripts/dev/measure-fleet."""
+import os
+import pathlib
+import subprocess
+import sys
+import time
+
+import model
+import postgres
+
+# What stands before each command that is measured.
+BEFORE = []
+
+
+class Run:
+    """A command: its seconds, and those of the processors for it and for all that it started. Where it writes into a
+    database, those of the database count too."""
+
+    def __init__(self, words, output=subprocess.DEVNULL, cluster=None, sound=(0,)):
+        before, start = spent(cluster), time.monotonic()
+        with subprocess.Popen([str(word) for word in (*BEFORE, *words)], stdout=output,
+                              stderr=subprocess.DEVNULL) as process:
+            _, status, used = os.wait4(process.pid, 0)
+            process.returncode = os.waitstatus_to_exitcode(status)
+        self.seconds = time.monotonic() - start
+        self.memory = used.ru_maxrss / 1024
+        if process.returncode not in sound:
+            sys.exit(f"measuring: {' '.join(map(str, words))} ended with status {process.returncode}")
+        self.work = used.ru_utime + used.ru_stime + spent(cluster) - before
+
+    def __str__(self):
+        return f"{self.seconds:.1f} | {self.work:.1f}"
+
+
+def spent(cluster):
+    """The processors' seconds for a PostgreSQL so far, and for its connections that have ended."""
+    if cluster is None:
+        return 0
+    # Until the last connection has ended.
+    time.sleep(0.5)
+    fields = pathlib.Path(f"/proc/{cluster.process.pid}/stat").read_text().rpartition(")")[2].split()
+    return sum(map(int, fields[11:15])) / os.sysconf("SC_CLK_TCK")
+
+
+def beginning(journal, count, path):
+    """The journal of the first touches of another."""
+    with open(journal, "rb") as file:
+        path.write_bytes(file.read(model.HEADER + model.SLOT * count) + b"\0")
+    return path
+
+
+def sizes(base):
+    """The bytes of a row of the touches in PostgreSQL, and of its entries in the indexes, over all months."""
+    asked = ("select sum(pg_relation_size(relid)), sum(pg_indexes_size(relid)), (select count(*) from bovtrila.touches)"
+             " from pg_partition_tree('bovtrila.touches') where isleaf")
+    said = subprocess.run([postgres.programs() / "psql", "-At", "-F", " ", "-c", asked, base], check=True, text=True,
+                          stdout=subprocess.PIPE).stdout
+    of_rows, of_indexes, count = map(int, said.split())
+    return of_rows / count, of_indexes / count
