@@ -70,7 +70,7 @@ class Work:
             self.write("plan.json", json.dumps(asked, indent=1) + "\n")
         plan = json.loads(self.read("plan.json"))
         for name, value in asked.items():
-            if plan.get(name) != value and name not in ("moment", "new", "words"):
+            if plan.get(name) != value and name not in ("unattended", "moment", "new", "words"):
                 raise Wrong(f"{self.folder} was begun with {name} {plan.get(name)}, not {value}: give the same words, "
                             "or remove that folder and begin again")
         return plan
@@ -135,6 +135,31 @@ def tables_of(lines, tables, moment):
     return {"now": now, "later": later, "limit": read[now].table["balance_limit"]}
 
 
+def check_printed(sums, table):
+    """Compares the sums that `balances` prints with those of its lines."""
+    rows, said = list(csv.DictReader(io.StringIO(table, newline=""))), sums_of(sums)
+    found = {"cards": len(rows), **{name: sum(int(row[name]) for row in rows) for name in ("balance", "paid_in", "charged")}}
+    for name, value in found.items():
+        if said.get(name) != value:
+            raise Wrong(f"balances: {name} is {said.get(name)}, and that of its lines {value}")
+
+
+def check_sums(old, sums):
+    """Compares the sums of the requests with those of the old journal's balances."""
+    total = sum(pence for pence, _ in old.values())
+    if sums["balances"] != total or sums["carried"] + sums["left"] - sums["owed"] != total:
+        raise Wrong(f"the old journal's balances come to {total}, and the requests carry {sums['carried']} of "
+                    f"{sums['balances']}, leave {sums['left']}, and drop debts of {sums['owed']}")
+
+
+def revision(table, day, gate):
+    """The request that revises fares to a table from a day on, with the bytes that `scripts/gate --revise` sends. The day
+    is a date, or a number where the calendar has none."""
+    first = int(day) if day.lstrip("-").isdecimal() else model.days(datetime.date.fromisoformat(day))
+    moment = min(86_400 * first, 2**32 - 1)
+    return model.touch(model.REVISE, gate, first, 0, wire.table_of(table).digest, first, moment)
+
+
 def differences(old, new, limit):
     """What is wrong with the cards of the new journal, as sentences."""
     for card in sorted(old.keys() | new.keys()):
@@ -157,7 +182,7 @@ def answered(line, requests):
         fields = wire.fields_of(request)
         change = fields.get("pence", 0)
         paid[fields["card"]] = balance = paid.get(fields["card"], 0) + change
-        verdict = 7 if request[2] == model.TOP_UP else 8
+        verdict = {model.TOP_UP: 7, model.ISSUE: 8, model.REVISE: model.REVISED}[request[2]]
         wanted = model.framed(">BHIBiq", model.REPLY, fields["gate"], fields["number"], verdict, change, balance)
         answer = line.take()
         if answer != wanted:
@@ -179,15 +204,16 @@ def rows(name, why, cards):
         yield f"          and {len(cards) - MOST} more: the file `left` has them all"
 
 
-def not_carried(old, limit, tables, send):
-    """The lines of the page on what isn't carried, and why."""
+def not_carried(old, limit, tables, send, is_sent=False):
+    """The lines of the page on what isn't carried, and why. Revisions to come may be sent already."""
     held = [(card, *what) for card, what in sorted(old.items())]
     yield from rows("owed", OWED, [(card, -pence) for card, pence, _ in held if pence < 0])
     yield from rows("left", LEFT, [(card, pence - limit) for card, pence, _ in held if pence > limit])
     yield from rows("inside", INSIDE, [(card, pence) for card, pence, is_inside in held if is_inside])
     yield f"days      {DAYS}"
     for name, day in tables["later"]:
-        yield f"revision  to {name} from {day} on: send it again: {send} --revise {name} --from {day}"
+        said = "it was sent again" if is_sent else f"send it again: {send} --revise {name} --from {day}"
+        yield f"revision  to {name} from {day} on: {said}"
 
 
 def page(handover, send):
@@ -202,8 +228,9 @@ def page(handover, send):
         f"of        {handover.sums['balances']} pence: what was carried and left, less what is owed",
         f"compared  each card's balance in {plan['new']} with the one in {old}",
         f"old       {old}: {seal[1]} touches, sealed {seal[2]}",
-        f"new       {plan['new']}: {plan['cards']} cards, room for {plan['capacity'] - count} more touches, fare table "
-        f"{handover.found['now']}", "", "Not carried:",
-        *not_carried(handover.held, limit, handover.found, send), "",
+        f"new       {plan['new']}: {plan['cards']} cards, room for {plan['capacity'] - handover.sent} more touches, fare "
+        f"table {handover.found['now']}", "", "Not carried:",
+        *not_carried(handover.held, limit, handover.found, send, plan["unattended"]), "",
+        "Next: nothing, the gates connect again by themselves." if plan["unattended"] else
         "Next: start the gates. First each of them sends the touches that were answered by fault 5.",
         f"Keep {handover.work.folder} with {old}: nothing else says what wasn't carried.", ""])
