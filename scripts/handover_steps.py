@@ -91,6 +91,7 @@ class Handover:
             said = self.server.wait_for_quiet(limit)
             if self.server.front == touches:
                 return said
+            self.server.check_time(limit)
 
     def stop(self):
         self.server.stop()
@@ -276,9 +277,12 @@ class Handover:
         if not (self.asked.stop and self.asked.start):
             return ""
         old_server.ENDING.ignore()
-        if self.is_switched():
-            return self.server.take_back(self.new, self.sent) if self.is_placing else ""
-        return self.server.back() if self.server.is_stopped() else ""
+        try:
+            if self.is_switched():
+                return self.server.take_back(self.new, self.sent) if self.is_placing else ""
+            return self.server.back() if self.server.is_stopped() else ""
+        except (Wrong, OSError) as error:
+            return f"and no server was started again, by this: {wrong_in_words(error, self.folder)}: start it by hand"
 
     def go_on(self):
         """Does each step that isn't done yet, and checks those that are. Once the server's settings name the new journal,

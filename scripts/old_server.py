@@ -119,9 +119,12 @@ class OldServer:
                     self.front = front
                     return f"the server has {front} touches, and for {self.asked.watch} s none came"
                 time.sleep(min(1, self.asked.watch))
-            if time.monotonic() > limit:
-                raise Wrong(f"for {self.asked.within} s there were never {self.asked.watch} s without a touch: choose "
-                            "another hour. Nothing was changed")
+            self.check_time(limit)
+
+    def check_time(self, limit):
+        if time.monotonic() > limit:
+            raise Wrong(f"for {self.asked.within} s there were never {self.asked.watch} s without a touch: choose another "
+                        "hour. Nothing was changed")
 
     def look(self):
         """Checks that no touch comes, as somebody has confirmed."""

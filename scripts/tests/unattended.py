@@ -141,6 +141,15 @@ class Unattended(Stations):
         self.assertIn("for 1 s there were never 30 s without a touch: choose another hour. Nothing was changed", err)
         self.assertTrue(serving.has_server(station.old))
 
+    def test_a_server_that_could_not_be_started_again_is_started_by_the_next_run(self):
+        station = self.station()
+        station.start()
+        status, _, err = station.alone("--start", "exit 3", *station.other_program("exit 5"))
+        self.assertEqual((status, err.count("\n"), serving.has_server(station.old)), (1, 1, False))
+        self.assertIn("; and 'exit 3' failed, so no server has station.journal: start it by hand\n", err)
+        self.assertEqual(station.alone(percent="99")[::2], (0, ""))
+        self.assert_carried(station, 9)
+
     def test_a_server_that_was_stopped_stays_so(self):
         station = self.station()
         status, _, err = station.alone(env={"JOURNAL_STREAM": "9:9"})
@@ -176,7 +185,7 @@ class Unattended(Stations):
 
     def test_a_run_that_was_cut_off_is_finished_by_the_next(self):
         """Killed before some of its calls that change a disk, start a program or connect."""
-        for place in range(2, 300, 5):
+        for place in range(2, 300, 7):
             station = self.station()
             station.start()
             words = killing.words(place, SCRIPT, "--when-above", "90", *station.words[1:])
