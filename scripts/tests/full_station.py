@@ -15,6 +15,8 @@ from harness import EXAMPLE, PROGRAM, REVISED, TIME, TOP
 
 SCRIPT = TOP / "scripts" / "next-journal"
 FIRST, PRICES = model.Table(EXAMPLE.read_text()), model.Table(REVISED.read_text())
+# How many seconds a run of the script may take, which starts the program a dozen times.
+RUN = 10 * TIME
 # Monday 2025-01-06 at 08:00 UTC, and 2099-01-05, a day to come.
 MORNING, FAR = 1736150400, 47_121
 # What each card holds, worked out by docs/FARES.md: card 1 as in the first example; card 2 paid 200 and touched out
@@ -91,7 +93,7 @@ class Station:
     @staticmethod
     def ended(*words, env=(), **options):
         here = {name: value for name, value in os.environ.items() if name != "JOURNAL_STREAM"}
-        done = subprocess.run([str(word) for word in (SCRIPT, *words)], capture_output=True, text=True, timeout=TIME,
+        done = subprocess.run([str(word) for word in (SCRIPT, *words)], capture_output=True, text=True, timeout=RUN,
                               env={**here, **dict(env)}, **options)
         if "Traceback" in done.stderr:
             raise AssertionError(done.stderr)

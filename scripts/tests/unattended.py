@@ -10,7 +10,7 @@ import killing
 import model
 import serving
 import wire
-from full_station import FAR, FIRST, MORNING, SCRIPT, Stations
+from full_station import FAR, FIRST, MORNING, RUN, SCRIPT, Stations
 from harness import PROGRAM, TIME
 
 
@@ -109,7 +109,7 @@ class Unattended(Stations):
             while not running.stdout.readline().startswith("step 7"):
                 self.assertIsNone(running.poll())
             running.terminate()
-            _, err = running.communicate(timeout=TIME)
+            _, err = running.communicate(timeout=RUN)
         self.assert_back(station, running.returncode, err, "ended by SIGTERM; the server runs on station.journal again")
 
     def test_a_touch_that_comes_while_it_is_stopped_gets_its_answer(self):
@@ -131,7 +131,7 @@ class Unattended(Stations):
         words = ["--when-above", "1", *station.words[1:], "--watch", "30", "--within", "1"]
         with subprocess.Popen([str(word) for word in (SCRIPT, *words)], stdout=subprocess.DEVNULL,
                               stderr=subprocess.PIPE, text=True) as running:
-            limit, number = time.monotonic() + TIME, 500
+            limit, number = time.monotonic() + RUN, 500
             while running.poll() is None and time.monotonic() < limit:
                 number += 1
                 station.ask(model.touch(model.TOP_UP, 7, number, 5, 1, MORNING + number))
@@ -185,11 +185,11 @@ class Unattended(Stations):
 
     def test_a_run_that_was_cut_off_is_finished_by_the_next(self):
         """Killed before some of its calls that change a disk, start a program or connect."""
-        for place in range(2, 300, 7):
+        for place in range(2, 300, 12):
             station = self.station()
             station.start()
             words = killing.words(place, SCRIPT, "--when-above", "90", *station.words[1:])
-            done = subprocess.run(words, capture_output=True, text=True, timeout=TIME)
+            done = subprocess.run(words, capture_output=True, text=True, timeout=RUN)
             if done.returncode == 0:
                 break
             with self.subTest(place, step=done.stdout.count("step ")):
