@@ -20,8 +20,6 @@ IN_PAGE = r"^\| (?P<code>\d+) \| (?P<name>\w+)"
 # The options whose limit is the command line's alone, with what the help says before it.
 OPTIONS = [("connections", "before it is done,"), ("idle", "for so many seconds,"), ("report", "each so many seconds,")]
 ACTS = ("in", "out", "top-up", "issue", "revision")
-ROWS = ("station", "single", "pair", "cap", "interchange")
-
 
 
 @dataclasses.dataclass
@@ -94,18 +92,6 @@ FACTS: dict[str, tuple[Place | Read, list[Place]]] = {
         Place(LUA, r'\{ "(?P<name>\w+)", \d+ \}', r"^local FIELDS = \{", r"^\}"), [
             Place(LUA, r"^ {4}(?P<name>\w+) = ProtoField", r"^local fields = \{", r"^\}", more=True),
         ]),
-    "keys of a table": (
-        Place("crates/fare_table/src/key.rt", r'top_key\("(?P<name>\w+)"'), [
-            Place("docs/TABLE.md", r"(?:^\| |(?<=`, ))`(?P<name>\w+)`", r"^\| Key \|", r"^$"),
-        ]),
-    **{f"keys of a row of {name}": (
-        Place("crates/fare_table/src/key.rt", rf'row_key\(Key::{name.title()}, "(?P<name>\w+)"'), [
-            Place("docs/TABLE.md", rf"(?:^\| |(?<=`, ))`{name}\.(?P<name>\w+)`", r"^\| Key \|", r"^$"),
-        ]) for name in ROWS},
-    "keys that are compared": (
-        Place("crates/fare_table/src/key.rt", r"^ {4}(?P<name>[A-Z]\w+),$", r"^pub enum Key \{", r"^\}"), [
-            Place("crates/table_report/src/reading.rt", r"\bKey::(?P<name>[A-Z]\w+)"),
-        ]),
     "the most touches of a history": (
         Place("crates/oyster_account/src/card.rt", r"const HISTORY_LIMIT: u32 = (?P<code>[\d_]+);"), [
             Place("crates/command_line/src/arguments.rt", r"const CAPACITY_LIMIT: u32 = (?P<code>[\d_]+);"),
@@ -148,10 +134,6 @@ FACTS: dict[str, tuple[Place | Read, list[Place]]] = {
         Place("crates/oyster_account/src/refusal.rt", r"const TOP_UP_LIMIT: u32 = (?P<code>[\d_]+);"), [
             Place("docs/FARES.md", r"the amount is 0 or above (?P<code>[\d,]+)"),
         ]),
-    "the highest balance limit of a table": (
-        Place("crates/fare_table/src/key.rt", r"const HIGHEST_BALANCE: u32 = (?P<code>[\d_]+);"), [
-            Place("docs/TABLE.md", r"`balance_limit` \| .* \| 1 to (?P<code>[\d,]+) \|"),
-        ]),
     "the most tables of a station": (
         Place("crates/fare_schedule/src/schedule.rt", r"const TABLE_LIMIT: usize = (?P<code>\d+);"), [
             Place("docs/TABLE.md", r"`5 TooMany` \| (?P<code>\d+) tables are there"),
@@ -187,10 +169,6 @@ FACTS: dict[str, tuple[Place | Read, list[Place]]] = {
     "the ABI of the library for gates": (
         Place("clients/c/Makefile", r"^SONAME = (?P<name>\S+)$"), [
             Place("docs/VERSIONS.md", r"^\| library for gates .*?, ABI `(?P<name>[^`]+)`"),
-        ]),
-    "the most caps of a table": (
-        Place("crates/fare_table/src/key.rt", r"const MOST_CAPS: usize = (?P<code>\d+);"), [
-            Place("docs/TABLE.md", r"`cap` \| list of tables \| no \| at most (?P<code>\d+) rows"),
         ]),
 }
 

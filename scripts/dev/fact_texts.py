@@ -5,6 +5,7 @@ import textwrap
 
 import fact_code
 import fact_frame_texts
+import fact_page_texts
 from fact_code import Coded
 from fact_regions import Region
 from fact_words import CARRYING, HEADER, LUA, PAGE, SOURCE, TALLY, WIDTH, WIRE, filled, quoted, words_of
@@ -89,4 +90,4 @@ def regions(top: pathlib.Path) -> list[Region]:
     """All regions of a tree, as they have to be."""
     limits = fact_code.limits(top)
     return [*Verdicts(top, limits).regions(), *Faults(top, limits).regions(), *fact_frame_texts.regions(top, limits),
-            carrying(limits)]
+            *fact_page_texts.regions(top), carrying(limits)]
