@@ -52,16 +52,6 @@ FACTS: dict[str, tuple[Place | Read, list[Place]]] = {
         Place("crates/gate_session/src/answer.rt", r"FaultCode::(?P<name>\w+) => (?P<code>\d+),"), [
             Place("crates/tap_office/src/fault.rt", r"SubmitFault::(?P<name>\w+) => (?P<code>\d+),", some=True),
         ]),
-    "faults of a fare table": (
-        Place("crates/fare_table/src/fault.rt", r'"fault table (?P<code>\d+) (?P<name>\w+)'), [
-            Place("docs/TABLE.md", r"^\| `fault table (?P<code>\d+) (?P<name>\w+)"),
-        ]),
-    "faults of a journal": (
-        Place("crates/tap_journal/src/fault.rt", r'"(?P<code>\d+) (?P<name>\w+)', r"^impl fmt::Display for JournalFault",
-              r"^\}"), [
-            Place("docs/*.md", r"^\| `fault journal (?P<code>\d+) (?P<name>\w+)", r"(?=^\| `fault journal 1 )",
-                  some=True),
-        ]),
     "kinds of requests": (
         Read("the definitions of frames", numbers_of(is_answer=False)), [
             Place("scripts/model.py", r"(?P<code>\d+)", r"^ENTER, LEAVE, .* = ", r"$"),

@@ -1,10 +1,22 @@
 """The tables of pages whose first columns come from the code, and whose last ones are written by hand in the page."""
 import pathlib
 
+import fact_faults
 import fact_keys
+from fact_code import Wrong
 from fact_regions import Region
 
-TABLE = "docs/TABLE.md"
+TABLE, LINES = "docs/TABLE.md", "docs/FAULTS.md"
+# The tables of faults: the page and the region, the program, and the words after `fault` of the lines that the table has.
+FAULTS = {(TABLE, "faults"): ("bovtrila", ("table",)),
+          (LINES, "faults of files"): ("bovtrila", ("file", "supply", "station")),
+          (LINES, "faults of a journal"): ("bovtrila", ("journal", "behind")),
+          (LINES, "faults of a migration"): ("bovtrila", ("migrate",)),
+          (LINES, "faults of an audit"): ("bovtrila", ("header", "seal", "gate", "card", "place", "balance")),
+          (LINES, "faults of a run"): ("bovtrila", ("listen", "close", "run")),
+          (LINES, "faults of a gate"): ("gate_send", ("file", "gate-file", "line", "clock", "ask", "answer", "tries"))}
+# Lines of gate_send that the other program prints too, for the same reason.
+SHARED = ("run",)
 
 
 def of_keys(top: pathlib.Path) -> Region:
@@ -15,6 +27,20 @@ def of_keys(top: pathlib.Path) -> Region:
     return Region(TABLE, "keys", ("Key | Type | Required | Range | Means", *rows), by_hand=1)
 
 
+def of_faults(top: pathlib.Path) -> list[Region]:
+    """The lines of faults. Each is in a table."""
+    lines = {program: fact_faults.faults(top, program) for program in fact_faults.PROGRAMS}
+    listed = {(program, word) for program, words in FAULTS.values() for word in words} | {("gate_send", word) for word in SHARED}
+    for program, line in ((program, line) for program, own in lines.items() for line in own):
+        if (program, line.split()[1]) not in listed:
+            raise Wrong(f"no table has the line '{line}' of {program}; add it to FAULTS in scripts/dev/fact_page_texts.py")
+    supply = fact_faults.lines(fact_faults.displayed(top), "SupplyFault")
+    return [Region(TABLE, "faults of revised tables", ("Fault | Is printed if", *(f"`{text}`" for text in supply)), by_hand=1)] + [
+        Region(file, name, ("Line | Cause | What to do",
+                            *(f"`{line}`" for line in lines[program] if line.split()[1] in words)), by_hand=2)
+        for (file, name), (program, words) in FAULTS.items()]
+
+
 def regions(top: pathlib.Path) -> list[Region]:
     """The regions of pages that are written in part by hand."""
-    return [of_keys(top)]
+    return [of_keys(top), *of_faults(top)]
