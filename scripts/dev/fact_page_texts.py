@@ -1,12 +1,19 @@
 """The tables of pages whose first columns come from the code, and whose last ones are written by hand in the page."""
 import pathlib
+import re
+import sys
 
 import fact_faults
 import fact_keys
-from fact_code import Wrong
+import script_help
+from fact_code import Wrong, text_of
 from fact_regions import Region
 
-TABLE, LINES = "docs/TABLE.md", "docs/FAULTS.md"
+sys.path.append(f"{sys.path[0]}/..")
+
+import program
+
+TABLE, LINES, COMMANDS = "docs/TABLE.md", "docs/FAULTS.md", "docs/COMMANDS.md"
 # The tables of faults: the page and the region, the program, and the words after `fault` of the lines that the table has.
 FAULTS = {(TABLE, "faults"): ("bovtrila", ("table",)),
           (LINES, "faults of files"): ("bovtrila", ("file", "supply", "station")),
@@ -41,6 +48,28 @@ def of_faults(top: pathlib.Path) -> list[Region]:
         for (file, name), (program, words) in FAULTS.items()]
 
 
+def unbuilt(top: pathlib.Path) -> list[str]:
+    """The programs that aren't built of the tree's code."""
+    return [name for name in ("tap_server", "gate_send") if not (top / "crates" / name / "out" / name).is_file()
+            or top == program.TOP and not program.is_built(name)]
+
+
+def of_commands(top: pathlib.Path) -> list[Region]:
+    """The options and the statuses of each command, by its --help. They stay as they are where a program isn't built."""
+    if unbuilt(top):
+        marked = re.findall(r"^<!-- generated: (.*) -->$", text_of(top, COMMANDS), re.M)
+        return [Region(COMMANDS, name, None) for name in marked]
+    found = []
+    helps = script_help.of(top / "crates/tap_server/out/tap_server").acts
+    for name, said in {**helps, "gate_send": script_help.of(top / "crates/gate_send/out/gate_send")}.items():
+        typed = [item.term for item in said.options if script_help.names(item)[-1] not in ("--help", "--version")]
+        words = [" ".join(script_help.values(item)) for item in said.words]
+        rows = (f"`{re.sub('[<>]', '', term)}`" for term in [*typed, *words])
+        found += [Region(COMMANDS, f"options of {name}", ("Option | Means", *rows), by_hand=1),
+                  Region(COMMANDS, f"statuses of {name}", ("Status | Means", *said.statuses), by_hand=1)]
+    return found
+
+
 def regions(top: pathlib.Path) -> list[Region]:
     """The regions of pages that are written in part by hand."""
-    return [of_keys(top), *of_faults(top)]
+    return [of_keys(top), *of_faults(top), *of_commands(top)]

@@ -19,10 +19,10 @@ UNWRITTEN = "(to be written)"
 @dataclasses.dataclass(frozen=True)
 class Region:
     """The lines that a file has between two marks. With `by_hand` they are a table: the first is its whole heading, and each
-    other one a row's cells without the last ones, of which so many are written by hand."""
+    other one a row's cells without the last ones, of which so many are written by hand. Without lines it stays as it is."""
     file: str
     name: str
-    lines: tuple[str, ...]
+    lines: tuple[str, ...] | None
     by_hand: int = 0
 
     def of(self, text: str) -> re.Match[str]:
@@ -37,6 +37,8 @@ class Region:
 
     def content(self, old: str) -> str:
         """The text between the marks, with what is written by hand in the text that is there."""
+        if self.lines is None:
+            return old
         if not self.by_hand:
             return "".join(f"{line}\n" for line in self.lines)
         hand = {cells_of(line)[0]: cells_of(line)[-self.by_hand:] for line in old.splitlines() if line.startswith("|")}

@@ -1,4 +1,5 @@
-"""The command line of an installed script, read from its own --help: for its page of the manual and its completion."""
+"""The command line of a program or of an installed script, read from its own --help: for docs/COMMANDS.md, its page of the
+manual and its completion."""
 import collections
 import os
 import re
@@ -6,44 +7,53 @@ import subprocess
 
 # A line of the help's lists: what is typed, as `--day DATE`, and what it is for.
 Item = collections.namedtuple("Item", "term help")
-# What --help says: how the script is called, what it does, its words, its options, and the help of each of its acts.
-Help = collections.namedtuple("Help", "usage text words options acts")
+# What --help says: how the command is called, what it does, its words, its options, its statuses, and the help of each of
+# its acts. `has_help` is true if an act `help` prints the help of another one.
+Help = collections.namedtuple("Help", "usage text words options statuses acts has_help")
+# The lists of the help, as argparse and clap call them.
+LISTS = re.compile(r"^(positional arguments|arguments|options|commands):\n", re.M | re.I)
 # The names of values that are files or folders.
-FILES = re.compile(r"file|folder|journal|copy|copies|[.]csv$|^(?:CA|CERT|KEY|OLD|NEW)$", re.I)
+FILES = re.compile(r"file|folder|journal|copy|copies|[.]csv$|^(?:CA|CERT|KEY|OLD|NEW|REVISION)$", re.I)
 
 
 def said_by(command, *acts):
-    """What a script's --help prints, in lines of a manual page's width."""
+    """What --help prints, in lines of a manual page's width."""
     done = subprocess.run([command, *acts, "--help"], check=True, capture_output=True, text=True,
                           env={**os.environ, "COLUMNS": "78"})
     return done.stdout
 
 
 def items(text):
-    """The rows of a list of the help."""
+    """The rows of a list of the help. It ends at an empty line."""
     found = []
-    for line in text.splitlines():
-        row = re.fullmatch(r"  (\S.*?)(?:  +(.*))?", line)
+    for line in text.partition("\n\n")[0].splitlines():
+        row = re.fullmatch(r" {2,6}(\S.*?)(?:  +(.*))?", line)
         if row:
             found.append([row[1], row[2] or ""])
-        elif line.strip():
+        else:
             found[-1][1] = f"{found[-1][1]} {line.strip()}".strip()
     return [Item(*row) for row in found]
 
 
 def read(said):
-    """The parts of what --help printed."""
-    usage, _, rest = said.removeprefix("usage: ").partition("\n\n")
-    text, *lists = re.split(r"^(positional arguments|options):\n", rest, flags=re.M)
-    named = dict(zip(lists[::2], lists[1::2]))
-    return Help(usage, text, items(named.get("positional arguments", "")), items(named.get("options", "")), {})
+    """The parts of what --help printed, and its list of commands."""
+    head, *lists = LISTS.split(said)
+    named = {name.lower().removeprefix("positional "): items(text) for name, text in zip(lists[::2], lists[1::2])}
+    usage = re.search(r"^usage: ((?:.+\n)+)", head, re.M | re.I)
+    statuses = re.search(r"^Statuses: ((?:.+\n?)+)", said, re.M)
+    numbers = re.findall(r"(?:^|[,;] )(\d+) ", " ".join(statuses[1].split())) if statuses else []
+    text = (head[:usage.start()] + head[usage.end():]).strip("\n")
+    own = Help(usage[1].strip(), text, named.get("arguments", []), named.get("options", []), numbers, {}, False)
+    return own, named.get("commands", [])
 
 
 def of(command):
-    """The help of a script, and of each of its acts, where its first word is one of several."""
-    found = read(said_by(command))
-    acts = found.words[0].term.split("|") if found.words and "|" in found.words[0].term else ()
-    return found._replace(acts={act: read(said_by(command, act)) for act in acts})
+    """The help of a program or a script, and of each of its acts, where its first word is one of several."""
+    found, commands = read(said_by(command))
+    acts = [item.term for item in commands if item.term != "help"]
+    if found.words and "|" in found.words[0].term:
+        acts = found.words[0].term.split("|")
+    return found._replace(acts={act: read(said_by(command, act))[0] for act in acts}, has_help=len(commands) > len(acts))
 
 
 def names(item):
@@ -52,10 +62,34 @@ def names(item):
 
 
 def values(item):
-    """The names of an option's values."""
-    return [value.strip("[]") for value in item.term.split(", ")[-1].split()[1:]]
+    """The names of an option's values, or of a word."""
+    last = item.term.split(", ")[-1].split()
+    return [value.strip("[]<>.") for value in (last[1:] if last[0].startswith("-") else last)]
+
+
+def choices(item):
+    """What the value of an option may be, where it is one of several words."""
+    found = re.search(r"\[possible values: (.*?)\]", item.help)
+    return found[1].split(", ") if found else []
+
+
+def conflicts(options):
+    """By an option those that may not be beside it, whichever of the two says so."""
+    found, named = {}, [names(item)[-1] for item in options if names(item)[-1] not in ("--help", "--version")]
+    for item in options:
+        one = names(item)[-1]
+        others = re.findall(r"; not with (--[a-z-]+)", item.help)
+        for other in named if "with no other option" in item.help else others:
+            if one != other:
+                found.setdefault(one, {})[other] = found.setdefault(other, {})[one] = None
+    return {one: list(others) for one, others in found.items()}
 
 
 def is_file(name):
     """Whether a value of this name is a file or a folder."""
     return bool(FILES.search(name))
+
+
+def has_files(said):
+    """Whether a word of the command line is a file or a folder."""
+    return any(is_file(value) for item in said.words for value in values(item))

@@ -20,7 +20,12 @@ KIT = f"stand-in-kit {LOGIC}"
 PARTS = ("scripts", "packaging", "docs", "clients", "crates/command_line", "crates/gate_send", "crates/tap_server")
 FILES = (".gitignore", "CHANGELOG.md", "HANDLES", "LICENSE", "NOTICE", "README.md", "SECURITY.md", "VERSION", "crates.txt")
 TOOLS = {"rt": f"echo '{KIT}'", "lintian": "exit 0"}
-SERVER = f"#!/bin/sh\necho 'bovtrila {VERSION}'\necho 'proved by Rattle, {LOGIC}'\n"
+SERVER = f"""#!/bin/sh
+case "$1" in
+--help) printf 'Answers touches\\n\\nUsage: bovtrila COMMAND\\n' ;;
+*) printf 'bovtrila {VERSION}\\nproved by Rattle, {LOGIC}\\n' ;;
+esac
+"""
 NOTES = "import program\nfor name in ('tap_server', 'gate_send'):\n    program.note(name, program.contents())"
 # What stands in for scripts/package: a package of one file. The line DO does nothing, unless a test puts a command there.
 PACKAGE = f"""#!/bin/sh
