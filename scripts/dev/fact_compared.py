@@ -8,15 +8,12 @@ import fact_frames
 import fact_regions
 import fact_texts
 from fact_code import Wrong
-from fact_places import Pair, Place, braces, section
+from fact_places import Pair, Place, braces
 
 LUA = "clients/wireshark/bovtrila.lua"
 HEADER = "clients/c/bovtrila_gate.h"
 SOURCE = "clients/c/bovtrila_gate.c"
-IN_C = r'\[(?P<code>\d+)\] = "'
 IN_PYTHON = r'(?P<code>\d+): "(?P<name>\w+)"'
-IN_LUA = r'\[(?P<code>\w+)\] = "?(?P<name>\w+)'
-IN_PAGE = r"^\| (?P<code>\d+) \| (?P<name>\w+)"
 # The options whose limit is the command line's alone, with what the help says before it.
 OPTIONS = [("connections", "before it is done,"), ("idle", "for so many seconds,"), ("report", "each so many seconds,")]
 ACTS = ("in", "out", "top-up", "issue", "revision")
@@ -44,7 +41,6 @@ FACTS: dict[str, tuple[Place | Read, list[Place]]] = {
     "verdicts": (
         Place("crates/oyster_account/src/verdict.rt", r"(?:Acceptance|Refusal)::(?P<name>\w+) => (?P<code>\d+),"), [
             Place("crates/oyster_account/src/verdict.rt", r'(?P<code>\d+) => Some\("(?P<name>\w+)"\)'),
-            Place("docs/FARES.md", IN_PAGE, **section("Verdicts")),
             Place("scripts/model.py", IN_PYTHON, **braces("VERDICTS =")),
             Place("network/schema.sql", r"'(?P<name>\w+)'", r"CREATE TYPE verdict AS ENUM", r";"),
         ]),

@@ -3,7 +3,9 @@ import pathlib
 import re
 import sys
 
+import fact_code
 import fact_faults
+import fact_frames
 import fact_keys
 import script_help
 from fact_code import Wrong, text_of
@@ -13,7 +15,8 @@ sys.path.append(f"{sys.path[0]}/..")
 
 import program
 
-TABLE, LINES, COMMANDS = "docs/TABLE.md", "docs/FAULTS.md", "docs/COMMANDS.md"
+TABLE, LINES, COMMANDS, FARES = "docs/TABLE.md", "docs/FAULTS.md", "docs/COMMANDS.md", "docs/FARES.md"
+STAMP = "crates/money_time/src/stamp.rt"
 # The tables of faults: the page and the region, the program, and the words after `fault` of the lines that the table has.
 FAULTS = {(TABLE, "faults"): ("bovtrila", ("table",)),
           (LINES, "faults of files"): ("bovtrila", ("file", "supply", "station")),
@@ -48,6 +51,25 @@ def of_faults(top: pathlib.Path) -> list[Region]:
         for (file, name), (program, words) in FAULTS.items()]
 
 
+def of_fares(top: pathlib.Path) -> list[Region]:
+    """The verdicts with the acts that get them, the hours of the fare day and of the windows, and the kinds of caps."""
+    acts, verdicts = fact_frames.acts(top), {True: ["Code | Accepted as | Act | For"], False: ["Code | Refusal | Acts | If"]}
+    for one in fact_code.verdicts(top):
+        of_acts = ", ".join(act.word for act in acts if one.name in act.accepted + act.refused)
+        verdicts[one.accepts].append(f"{one.code} | {one.name} | {of_acts}")
+    minutes = {name: int(minute) for name, minute in re.findall(r"const (\w+): u16 = (\d+);", text_of(top, STAMP))}
+    clock = {name: f"{minute // 60:02}:{minute % 60:02}" for name, minute in minutes.items()}
+    hours = [f"{name.removesuffix('_START').replace('_', ' ').capitalize()} | {clock[name]} | "
+             f"{clock.get(name.replace('_START', '_END'), clock[name])}" for name in clock if name.endswith("_START")]
+    if len(hours) < 3:
+        raise Wrong(f"{STAMP}: no constants NAME_START and NAME_END are there; scripts/dev/fact_page_texts.py has to be changed with the code")
+    known = fact_keys.constants(text_of(top, fact_keys.KEY))
+    caps = (f"`{known[name].strip(chr(34))}`" for name in ("ANYTIME", "OFF_PEAK"))
+    return [Region(FARES, "refusals", tuple(verdicts[False]), by_hand=1), Region(FARES, "acceptances", tuple(verdicts[True]), by_hand=1),
+            Region(FARES, "hours", ("Part of the day | From | Until before | On", *hours), by_hand=1),
+            Region(FARES, "kinds of caps", ("Kind of cap | Covers", *caps), by_hand=1)]
+
+
 def unbuilt(top: pathlib.Path) -> list[str]:
     """The programs that aren't built of the tree's code."""
     return [name for name in ("tap_server", "gate_send") if not (top / "crates" / name / "out" / name).is_file()
@@ -72,4 +94,4 @@ def of_commands(top: pathlib.Path) -> list[Region]:
 
 def regions(top: pathlib.Path) -> list[Region]:
     """The regions of pages that are written in part by hand."""
-    return [of_keys(top), *of_faults(top), *of_commands(top)]
+    return [of_keys(top), *of_faults(top), *of_commands(top), *of_fares(top)]

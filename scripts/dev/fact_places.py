@@ -53,11 +53,6 @@ def value_of(match: re.Match[str], group: str) -> Value:
     return text.title().replace("_", "") if text.isupper() else text
 
 
-def section(title: str) -> dict[str, str]:
-    """The beginning and the end of a page's section."""
-    return {"begin": rf"^##+ {title}$", "end": r"^## |\Z"}
-
-
 def braces(head: str) -> dict[str, str]:
     """The beginning and the end of what is in the braces after this text."""
     return {"begin": re.escape(head) + r" \{", "end": r"\}"}
