@@ -5,6 +5,7 @@ import textwrap
 
 import fact_code
 import fact_frame_texts
+import fact_packaging
 import fact_page_texts
 from fact_code import Coded
 from fact_regions import Region
@@ -90,4 +91,4 @@ def regions(top: pathlib.Path) -> list[Region]:
     """All regions of a tree, as they have to be."""
     limits = fact_code.limits(top)
     return [*Verdicts(top, limits).regions(), *Faults(top, limits).regions(), *fact_frame_texts.regions(top, limits),
-            *fact_page_texts.regions(top), carrying(limits)]
+            *fact_page_texts.regions(top), *fact_packaging.regions(top), carrying(limits)]

@@ -1,0 +1,72 @@
+"""Reads in packaging/ what docs/OPERATING.md has of it: the settings of units, the addresses, and where each file lies."""
+import pathlib
+import re
+
+from fact_code import Wrong, text_of
+from fact_regions import Region
+
+PAGE, FILES = "docs/OPERATING.md", "packaging/files"
+# Where each address is set, and how it is read there.
+ADDRESSES = {"packaging/serve.conf": r"^listen = (.+)$", "packaging/stunnel/bovtrila.conf": r"^accept = :::(\d+)$",
+             "packaging/stunnel/gate.conf": r"^accept = (.+)$", "scripts/exporter": r'^PLACE = \("(.+)", (\d+)\)$'}
+
+
+def settings(top: pathlib.Path, unit: str) -> dict[str, str]:
+    """The settings of a unit by their names."""
+    return dict(re.findall(r"^(\w+)=(.*)$", text_of(top, f"packaging/{unit}"), re.M))
+
+
+def unit_row(own: dict[str, str]) -> str:
+    """What a unit does if its program ends, its open files, and the modes of the folder and the files that it makes."""
+    ends = "runs again by its timer"
+    if "Restart" in own:
+        ends = f"`Restart={own['Restart']}` after {own['RestartSec']} s"
+        ends += f", at most {own['StartLimitBurst']} times in {own['StartLimitIntervalSec']} s" if "StartLimitBurst" in own else ""
+        ends += f", not after status {own['RestartPreventExitStatus']}" if "RestartPreventExitStatus" in own else ""
+        ends += f"; {own['SuccessExitStatus']} is no failure" if "SuccessExitStatus" in own else ""
+    modes = [own["StateDirectoryMode"]] if "StateDirectoryMode" in own else []
+    return " | ".join([own["User"], ends, own.get("LimitNOFILE", ""), ", ".join([*modes, f"0{0o666 & ~int(own['UMask'], 8):o}"])])
+
+
+def units(top: pathlib.Path) -> Region:
+    """The units. Those of several servers have a row with that of one server, where their settings are the same."""
+    by_row: dict[str, list[str]] = {}
+    for file in sorted(top.glob("packaging/*.service")):
+        try:
+            by_row.setdefault(f"{file.stem.removesuffix('@')} | {unit_row(settings(top, file.name))}", []).append(file.name)
+        except KeyError as key:
+            raise Wrong(f"packaging/{file.name}: no setting {key}; add it") from None
+    rows = (f"{', '.join(f'`{name}`' for name in names)} | {row.partition(' | ')[2]}" for row, names in by_row.items())
+    return Region(PAGE, "units", ("Unit | Runs as | If its program ends | Open files | Modes of folder and files | Does", *rows), by_hand=1)
+
+
+def addresses(top: pathlib.Path) -> Region:
+    """The addresses that settings and scripts have, until somebody changes them."""
+    rows = []
+    for file, form in ADDRESSES.items():
+        found = re.search(form, text_of(top, file), re.M)
+        if not found:
+            raise Wrong(f"{file}: no address is there; scripts/dev/fact_packaging.py has to be changed with it")
+        rows.append(f"`{file.rpartition('/')[2]}` | {':'.join(found.groups())}")
+    return Region(PAGE, "addresses", ("Set in | Address or port | Listens there", *rows), by_hand=1)
+
+
+def packaged(top: pathlib.Path) -> Region:
+    """The files of the package, by their folders. A script that can be started is a command in /usr/bin."""
+    by_folder: dict[str, list[str]] = {"/usr/bin": []}
+    for pattern, place in re.findall(r"^([^#\s]\S*) +(\S+)$", text_of(top, FILES), re.M):
+        found = sorted(top.glob(pattern)) if place.endswith("/") else [top / pattern]
+        if not found:
+            raise Wrong(f"{FILES}: no {pattern}; correct or remove the line")
+        for file in found:
+            folder, _, name = f"/{place}".rpartition("/")
+            is_command = file.parent.name == "scripts" and file.stat().st_mode & 0o100
+            own = by_folder.setdefault("/usr/bin" if is_command else folder, [])
+            own.append(f"bovtrila-{file.name}" if is_command else name or file.name)
+    rows = (f"`{folder}` | {', '.join(f'`{name}`' for name in dict.fromkeys(sorted(names)))}" for folder, names in by_folder.items())
+    return Region(PAGE, "packaged files", ("Where | Files | What", *rows), by_hand=1)
+
+
+def regions(top: pathlib.Path) -> list[Region]:
+    """The regions of docs/OPERATING.md."""
+    return [units(top), addresses(top), packaged(top)]
