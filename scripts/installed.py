@@ -11,6 +11,9 @@ ADMINISTRATION = {"authority", "exporter", "keep-copies", "new-fares", "next-jou
                   "setup", "start"}
 # What a page says of the repository alone stands between two comments.
 OF_REPOSITORY = re.compile(r"^<!-- of the repository -->\n.*?^<!-- -->\n", re.M | re.S)
+# A path of the repository, alone or in a span of code; a block of code is passed over.
+PATH = r"(?<![\w/.<>{}*$-])(?:bench|clients|crates|docs|network|packaging|scripts)/[\w./*@-]*\w/?"
+NAMED = re.compile(rf"^```.*?^```$|`[^`\n]*?(?P<code>{PATH})[^`\n]*`|(?P<bare>{PATH})", re.M | re.S)
 
 
 def rows():
@@ -49,9 +52,27 @@ def names(text):
     return re.sub(r"(?<![\w/])docs/(example\.toml|vectors[a-z-]*\.t)", rf"{SHARE}/docs/\1", text)
 
 
+def of_sources(text):
+    """A text in which each file that isn't installed is named as one of the sources where it is first named, and others of
+    packaging/ by their places."""
+    places = {str(file.relative_to(TOP)): place for file, place in rows()}
+    seen = {"scripts/bovtrila"}
+
+    def named(match):
+        path = (match["code"] or match["bare"] or "").rstrip("/")
+        if path in places and path.startswith("packaging/"):
+            return match[0].replace(path, f"/{places[path]}")
+        if not path or path in seen or any(one == path or one.startswith(f"{path}/") for one in places):
+            return match[0]
+        seen.add(path)
+        return match[0] if text[match.end():].lstrip().startswith("of the sources") else f"{match[0]} of the sources"
+
+    return NAMED.sub(named, text)
+
+
 def page(text):
     """A page, without what it says of the repository alone."""
-    return names(OF_REPOSITORY.sub("", text))
+    return names(of_sources(OF_REPOSITORY.sub("", text)))
 
 
 def script(text):
