@@ -37,7 +37,8 @@ def units(top: pathlib.Path) -> Region:
         except KeyError as key:
             raise Wrong(f"packaging/{file.name}: no setting {key}; add it") from None
     rows = (f"{', '.join(f'`{name}`' for name in names)} | {row.partition(' | ')[2]}" for row, names in by_row.items())
-    return Region(PAGE, "units", ("Unit | Runs as | If its program ends | Open files | Modes of folder and files | Does", *rows), by_hand=1)
+    heading = "Unit | Runs as | If its program ends | Open files | Modes of folder and files | Does"
+    return Region(PAGE, "units", (heading, *rows), by_hand=1)
 
 
 def addresses(top: pathlib.Path) -> Region:

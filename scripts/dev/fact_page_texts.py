@@ -62,7 +62,8 @@ def of_fares(top: pathlib.Path) -> list[Region]:
     hours = [f"{name.removesuffix('_START').replace('_', ' ').capitalize()} | {clock[name]} | "
              f"{clock.get(name.replace('_START', '_END'), clock[name])}" for name in clock if name.endswith("_START")]
     if len(hours) < 3:
-        raise Wrong(f"{STAMP}: no constants NAME_START and NAME_END are there; scripts/dev/fact_page_texts.py has to be changed with the code")
+        raise Wrong(f"{STAMP}: no constants NAME_START and NAME_END are there; scripts/dev/fact_page_texts.py has to be changed "
+                    "with the code")
     known = fact_keys.constants(text_of(top, fact_keys.KEY))
     caps = (f"`{known[name].strip(chr(34))}`" for name in ("ANYTIME", "OFF_PEAK"))
     return [Region(FARES, "refusals", tuple(verdicts[False]), by_hand=1), Region(FARES, "acceptances", tuple(verdicts[True]), by_hand=1),

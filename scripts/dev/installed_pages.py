@@ -12,7 +12,8 @@ PLACE = re.compile(r"/usr/share/bovtrila/[\w./-]*\w")
 
 def pages():
     """The texts of the installed pages, by their names."""
-    return {file.name: installed.page(file.read_text()) for file, place in installed.rows() if place.startswith(DOC) and file.suffix == ".md"}
+    files = (file for file, place in installed.rows() if place.startswith(DOC) and file.suffix == ".md")
+    return {file.name: installed.page(file.read_text()) for file in files}
 
 
 def is_of_sources(text, path):
