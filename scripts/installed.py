@@ -21,7 +21,8 @@ def rows():
     for line in FILES.read_text().splitlines():
         if line and not line.startswith("#"):
             pattern, place = line.split()
-            found = sorted(TOP.glob(pattern))
+            # A program may not be built yet.
+            found = sorted(TOP.glob(pattern)) or [TOP / pattern] * ("/out/" in pattern)
             if not found:
                 raise FileNotFoundError(f"{FILES}: no {pattern}")
             for file in found:
