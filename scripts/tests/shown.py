@@ -20,6 +20,10 @@ DIFFERS = (
     ("the time of an answer", re.compile(r"answered in [0-9.]+ ms"), "answered in TIME"),
     ("the clock of a screen", re.compile(r"^time        \S+Z$", re.M), "time        CLOCK"),
     ("the room on a disk", re.compile(r"^disk        \S+ \S+ free; the journal needs .*$", re.M), "disk        ROOM"),
+    ("the room on a disk with a whole journal", re.compile(r"^disk        \S+ \S+ free; the journal has", re.M),
+     "disk        ROOM; the journal has"),
+    ("the start of a unit", re.compile(r"active since \S+Z; "), "active since MOMENT; "),
+    ("the moment of a handover", re.compile(r"(numbers \d+ to \d+, of) \S+Z$", re.M), r"\1 MOMENT"),
     ("a carriage return, which a page can't show", re.compile(r"\r"), ""),
 )
 # The ports of the pages: a free one stands in the place of each.
@@ -85,8 +89,13 @@ def limited(process):
 class Shell:
     """A shell in a folder that looks like the repository, and stays while a page's commands run."""
 
+    # The folder below its own in which commands are given.
+    HOME = "."
+
     def __init__(self, folder, **more):
         self.folder, self.mark = pathlib.Path(folder), secrets.token_hex(8)
+        self.home = self.folder / self.HOME
+        self.home.mkdir(exist_ok=True)
         self.ports = dict(zip(PORTS, free_ports(len(PORTS))))
         for name in ("docs", "network", "crates", "clients"):
             (self.folder / name).symlink_to(TOP / name)
@@ -104,7 +113,7 @@ class Shell:
         (path / "bovtrila").symlink_to(program)
         self.env = {**os.environ, "PATH": f"{path}:{os.environ['PATH']}"}
         self.env.update((name, str(value)) for name, value in more.items())
-        self.process = subprocess.Popen(["bash", "--norc"], cwd=self.folder, env=self.env, stdin=subprocess.PIPE,
+        self.process = subprocess.Popen(["bash", "--norc"], cwd=self.home, env=self.env, stdin=subprocess.PIPE,
                                         stdout=subprocess.PIPE, stderr=subprocess.STDOUT, text=True,
                                         start_new_session=True)
         self.tell("shopt -s expand_aliases; trap 'kill $(jobs -p) 2>/dev/null; wait' EXIT; true")
@@ -119,7 +128,7 @@ class Shell:
     def tell(self, text):
         """Gives the shell a command, and waits for its output: both streams, as a terminal shows them."""
         (self.folder / ".command").write_text(text + "\n")
-        self.process.stdin.write(f". ./.command </dev/null; s=$?; echo {self.mark}; (exit $s)\n")
+        self.process.stdin.write(f". {self.folder}/.command </dev/null; s=$?; echo {self.mark}; (exit $s)\n")
         self.process.stdin.flush()
         said = ""
         with limited(self.process):
@@ -133,8 +142,8 @@ class Shell:
     def run(self, command):
         """Runs a command of a page, and gives what was said, with the page's ports."""
         text = command.text
-        for port, free in self.ports.items():
-            text = text.replace(f"127.0.0.1:{port}", f"127.0.0.1:{free}")
+        for name, instead in self.names().items():
+            text = text.replace(name, instead)
         if command.is_serving():
             said = self.serve(text, command.shown.count("\n"))
         elif ASKED + TYPED in command.shown:
@@ -143,9 +152,13 @@ class Shell:
             said = self.tell(text)
         if command.text.endswith("&"):
             self.wait_for_listeners()
-        for port, free in self.ports.items():
-            said = said.replace(f"127.0.0.1:{free}", f"127.0.0.1:{port}")
+        for name, instead in self.names().items():
+            said = said.replace(instead, name)
         return said
+
+    def names(self):
+        """The names of a page that have others here: a free port is used in the place of each."""
+        return {f"127.0.0.1:{port}": f"127.0.0.1:{free}" for port, free in self.ports.items()}
 
     def serve(self, text, lines):
         """Starts a server, and waits until it has said so many lines, or has ended."""
@@ -164,7 +177,7 @@ class Shell:
     def type(self, text):
         """Runs a command at a terminal, and types behind what is asked there."""
         ours, its = pty.openpty()
-        process = subprocess.Popen(["bash", "-c", text], cwd=self.folder, env=self.env, stdin=its, stdout=its,
+        process = subprocess.Popen(["bash", "-c", text], cwd=self.home, env=self.env, stdin=its, stdout=its,
                                    stderr=its, start_new_session=True)
         os.close(its)
         said, typed = "", False
