@@ -20,8 +20,13 @@ def pandoc(given, *words):
 
 
 def parsed(text):
-    """The blocks of a Markdown text."""
-    return json.loads(pandoc(text, "-f", "gfm", "-t", "json"))["blocks"]
+    """The blocks of a Markdown text, without its pictures: a terminal has none."""
+    return [block for block in json.loads(pandoc(text, "-f", "gfm", "-t", "json"))["blocks"] if not is_picture(block)]
+
+
+def is_picture(block):
+    """Whether a block is a picture alone."""
+    return block["t"] == "Para" and [one["t"] for one in block["c"]] == ["Image"]
 
 
 def plain(value):
