@@ -25,9 +25,13 @@ class Fault(Exception):
 
 
 def found(name=None):
-    """The program: that of this name, the one on the path, or that of this repository."""
-    here = pathlib.Path(__file__).resolve().parent.parent
-    return name or shutil.which("bovtrila") or str(here / "scripts" / "bovtrila")
+    """The program: that of this name; in the repository the one on the path, or the repository's; and where these tools
+    are installed, that of the package bovtrila, which has the same version."""
+    here = pathlib.Path(__file__).resolve().parent
+    script = here.parent / "scripts" / "bovtrila"
+    if script.is_file():
+        return name or shutil.which("bovtrila") or str(script)
+    return name or str(here.parents[2] / "bin" / "bovtrila")
 
 
 class Inherited(str):

@@ -13,8 +13,9 @@ import repository
 import sources
 from program import TOP
 
-# The programs that a package contains.
+# The programs that a package contains, and the package.
 PROGRAMS = ("tap_server", "gate_send")
+STATION = "bovtrila"
 UNKNOWN = "NOASSERTION"
 LICENCE = "Apache-2.0"
 
@@ -76,15 +77,18 @@ def document(release, archive, packages):
     kit = described("Kit", release.kit.split()[0], release.kit)
     crates = [described("Crate", name, release.kit, primaryPackagePurpose="LIBRARY") for name in crates_of_kit()]
     made = [of_file("INSTALL", file, field(file, "Package"), field(file, "Version")) for file in packages]
+    own = {one["name"]: one["SPDXID"] for one in made}
     needed = [dependencies(file) for file in packages]
-    debian = [described("Debian", name, "") for name in sorted(set().union(*needed))]
+    debian = [described("Debian", name, "") for name in sorted(set().union(*needed) - set(own))]
     related = []
     for one, names in zip(made, needed):
         related += [("SPDXRef-DOCUMENT", "DESCRIBES", one["SPDXID"], None),
                     (one["SPDXID"], "GENERATED_FROM", source["SPDXID"], None),
                     (kit["SPDXID"], "BUILD_TOOL_OF", one["SPDXID"], None),
-                    *((one["SPDXID"], "STATIC_LINK", crate["SPDXID"], None) for crate in crates),
-                    *((one["SPDXID"], "DEPENDS_ON", identifier("Debian", name), said) for name, said in names.items())]
+                    *((one["SPDXID"], "STATIC_LINK", crate["SPDXID"], None)
+                      for crate in crates if one["name"] == STATION),
+                    *((one["SPDXID"], "DEPENDS_ON", own.get(name) or identifier("Debian", name), said)
+                      for name, said in names.items())]
     name, at = f"bovtrila-{release.version}", datetime.datetime.fromtimestamp(release.moment, datetime.UTC)
     created = {"created": at.strftime("%Y-%m-%dT%H:%M:%SZ"), "creators": [f"Tool: bovtrila-release-{release.version}"]}
     return {"spdxVersion": "SPDX-2.3", "dataLicense": "CC0-1.0", "SPDXID": "SPDXRef-DOCUMENT", "name": name,

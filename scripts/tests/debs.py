@@ -20,8 +20,8 @@ def lacking():
 
 
 def make(folder, umask=-1, **environment):
-    """Makes a package in the folder, with other rights for files or another environment where they are named; its path,
-    and what was told."""
+    """Makes the packages in the folder, with other rights for files or another environment where they are named; the path
+    of the station's, and what was told."""
     if lacking():
         raise unittest.SkipTest(lacking())
     # scripts/package would prove and build them, which is none of a test's business.
@@ -35,6 +35,12 @@ def make(folder, umask=-1, **environment):
     if done.returncode:
         raise AssertionError(done.stderr)
     return pathlib.Path(done.stdout.splitlines()[-1]), done.stderr
+
+
+def of_network(package):
+    """The package of the network's tools that was made together with a station's package."""
+    version = package.name.split("_")[1]
+    return package.with_name(f"bovtrila-network_{version}_all.deb")
 
 
 # The settings as the version 1.0.0 had them: a file of the package, all arguments in one line, which its unit read.
@@ -60,14 +66,17 @@ def as_earlier(folder):
 
 
 def remade(package, version, change=None):
-    """The package with another version, and with a change of what it has: beside it."""
+    """The package with another version, of itself and of the packages of the same version that it needs, and with a change
+    of what it has: beside it."""
     folder = package.with_suffix("")
     subprocess.run(["dpkg-deb", "--raw-extract", package, folder], check=True)
     control = folder / "DEBIAN" / "control"
-    control.write_text(re.sub(r"^Version: .*$", f"Version: {version}", control.read_text(), flags=re.M))
+    text = re.sub(r"^Version: .*$", f"Version: {version}", control.read_text(), flags=re.M)
+    control.write_text(re.sub(r"\(= [^)]*\)", f"(= {version})", text))
     if change:
         change(folder)
-    made = package.with_name(f"bovtrila_{version}_amd64.deb")
+    name, _, kind = package.name.split("_")
+    made = package.with_name(f"{name}_{version}_{kind}")
     subprocess.run(["dpkg-deb", "--root-owner-group", "--build", folder, made], check=True, stdout=subprocess.DEVNULL)
     shutil.rmtree(folder)
     return made

@@ -237,7 +237,8 @@ class ReleaseContents(ReleaseTest):
     def setUp(self):
         super().setUp()
         self.assert_made(VERSION)
-        self.package = next(self.to.glob("*.deb"))
+        self.package = next(self.to.glob("bovtrila_*.deb"))
+        self.network = debs.of_network(self.package)
 
     def checked(self, file, folder):
         """The status of sha256sum with the digests of a file, in a folder, and what it says."""
@@ -248,7 +249,7 @@ class ReleaseContents(ReleaseTest):
     def test_what_is_in_it(self):
         self.assertRegex(self.package.name, rf"^bovtrila_{re.escape(VERSION)}-\d{{8}}\.\d{{6}}_amd64\.deb$")
         archive, bill = f"bovtrila-{VERSION}.tar.gz", f"bovtrila-{VERSION}.spdx.json"
-        names = {"PROVED", "SHA256SUMS", archive, bill, self.package.name}
+        names = {"PROVED", "SHA256SUMS", archive, bill, self.package.name, self.network.name}
         self.assertEqual({file.name for file in self.to.iterdir()}, names)
         self.assert_digests(names - {"SHA256SUMS"})
         sources = self.assert_sources(archive)
@@ -306,19 +307,26 @@ class ReleaseContents(ReleaseTest):
                                   "copyrightText"}, set(one))
         for one in bill["relationships"]:
             self.assertLessEqual({one["spdxElementId"], one["relatedSpdxElement"]}, {*packages, "SPDXRef-DOCUMENT"})
-        for name, file in (("SPDXRef-Install-bovtrila", self.package.name), ("SPDXRef-Source-bovtrila", archive)):
+        for name, file in (("SPDXRef-Install-bovtrila", self.package.name), ("SPDXRef-Source-bovtrila", archive),
+                           ("SPDXRef-Install-bovtrila-network", self.network.name)):
             digest = digest_of(self.to / file)
             self.assertEqual(packages[name]["packageFileName"], file)
             self.assertEqual(packages[name]["checksums"], [{"algorithm": "SHA256", "checksumValue": digest}])
         self.assertEqual(packages["SPDXRef-Kit-stand-in-kit"]["versionInfo"], KIT)
-        linked = self.related(bill, "STATIC_LINK")
+        linked = self.related(bill, "STATIC_LINK", "bovtrila")
+        self.assertEqual(self.related(bill, "STATIC_LINK", "bovtrila-network"), set())
         self.assertLessEqual({"clap", "jiff-core", "libc"}, {name.removeprefix("SPDXRef-Crate-") for name in linked})
         # gate_send's stand-in is a program of the C library.
         self.assertLessEqual({f"SPDXRef-Debian-{name}" for name in ("libc6", "python3", "systemd", "tzdata")},
-                             self.related(bill, "DEPENDS_ON"))
+                             self.related(bill, "DEPENDS_ON", "bovtrila"))
+        # The tools need the station's package, which is another one of the release.
+        self.assertLessEqual({"SPDXRef-Install-bovtrila", "SPDXRef-Debian-python3-psycopg2"},
+                             self.related(bill, "DEPENDS_ON", "bovtrila-network"))
+        self.assertNotIn("SPDXRef-Debian-bovtrila", packages)
 
-    def related(self, bill, kind):
-        return {one["relatedSpdxElement"] for one in bill["relationships"] if one["relationshipType"] == kind}
+    def related(self, bill, kind, package):
+        return {one["relatedSpdxElement"] for one in bill["relationships"]
+                if (one["relationshipType"], one["spdxElementId"]) == (kind, f"SPDXRef-Install-{package}")}
 
 
 class LinkedCrates(unittest.TestCase):

@@ -1,0 +1,59 @@
+"""What the tests of the packages share: the packages, made twice and unpacked, and the checks of manual pages."""
+import atexit
+import concurrent.futures
+import functools
+import gzip
+import os
+import pathlib
+import shutil
+import subprocess
+import tempfile
+import unittest
+
+import debs
+import harness
+
+
+@functools.cache
+def made_twice():
+    """The folder where the packages of this tree are made twice, side by side, and unpacked; the station's ones, each with
+    what was told. The second ones are made by somebody with another clock, another language and other rights for files."""
+    room = tempfile.TemporaryDirectory(prefix="packaged-")
+    atexit.register(room.cleanup)
+    folder = pathlib.Path(room.name)
+    with concurrent.futures.ThreadPoolExecutor() as side_by_side:
+        both = [making.result() for making in (
+            side_by_side.submit(debs.make, folder / "made"),
+            side_by_side.submit(debs.make, folder / "again", 0o077, TZ="Pacific/Auckland", LC_ALL="C", LANGUAGE="de"))]
+    subprocess.run(["dpkg-deb", "--extract", both[0][0], folder / "tree"], check=True)
+    subprocess.run(["dpkg-deb", "--extract", debs.of_network(both[0][0]), folder / "network"], check=True)
+    return folder, *both
+
+
+class Package(harness.ProgramTest):
+    """The packages, made twice and unpacked."""
+
+    @classmethod
+    def setUpClass(cls):
+        super().setUpClass()
+        if debs.lacking():
+            raise unittest.SkipTest(debs.lacking())
+        cls.room, (cls.package, cls.told), (cls.again, _) = made_twice()
+        cls.tree, cls.network = cls.room / "tree", cls.room / "network"
+        cls.share, cls.pages = cls.tree / "usr" / "share" / "bovtrila", cls.tree / "usr" / "share" / "doc" / "bovtrila"
+
+    def check_manual(self, folder):
+        """man and mandoc have nothing to say of the manual pages of a folder."""
+        if not (shutil.which("man") and shutil.which("mandoc")):
+            self.skipTest("manual pages are looked at by man and mandoc (man-db, mandoc)")
+        for path in sorted(folder.glob("man*/*")):
+            with self.subTest(path.name):
+                page = self.room / path.stem
+                page.write_bytes(gzip.decompress(path.read_bytes()))
+                done = subprocess.run(["mandoc", "-T", "lint", page], capture_output=True, text=True)
+                self.assertEqual((done.returncode, done.stdout + done.stderr), (0, ""))
+                done = subprocess.run(["man", "--warnings", "-E", "UTF-8", "-l", "-Tutf8", "-Z", page], text=True,
+                                      capture_output=True, env={**os.environ, "LC_ALL": "C.UTF-8", "MANWIDTH": "80"})
+                self.assertEqual((done.returncode, done.stderr), (0, ""))
+                done = subprocess.run(["lexgrog", page], capture_output=True, text=True)
+                self.assertTrue(done.stdout.startswith(f'{page}: "{path.name.partition(".")[0]} - '), done.stdout)

@@ -1,0 +1,151 @@
+"""Tests the package of the tools for a network, together with the station's, which it needs."""
+import re
+import shutil
+import subprocess
+import sys
+
+import debs
+import installed
+import model
+import program
+from harness import EXAMPLE, TIME, TOP
+from packaged_base import Package
+
+TOOLS = ("audit", "check", "detach", "load", "migrate", "query", "report")
+ANSWERS = (TOP / "docs" / "NETWORK.md").read_text()
+
+
+class NetworkPackage(Package):
+    """What is in it, and its commands where they are installed beside the program."""
+
+    @classmethod
+    def setUpClass(cls):
+        super().setUpClass()
+        cls.file = debs.of_network(cls.package)
+        cls.page = cls.network / "usr" / "share" / "doc" / "bovtrila-network" / "NETWORK.md"
+        # A machine with both packages.
+        cls.both = cls.room / "both"
+        if not cls.both.exists():
+            for tree in (cls.tree, cls.network):
+                shutil.copytree(tree, cls.both, symlinks=True, dirs_exist_ok=True)
+
+    def field(self, name):
+        said = subprocess.run(["dpkg-deb", "--field", self.file, name], capture_output=True, text=True, check=True)
+        return said.stdout.strip()
+
+    def called(self, name, *words, folder="/"):
+        """How a tool ends that is called by its installed name, with the programs of the system alone on the path."""
+        return subprocess.run([self.both / "usr" / "bin" / f"bovtrila-network-{name}", *map(str, words)], cwd=folder,
+                              text=True, capture_output=True, env={"PATH": "/usr/bin:/bin"}, timeout=TIME)
+
+    def test_two_runs_make_the_same_bytes(self):
+        self.assertEqual(self.file.read_bytes(), debs.of_network(self.again).read_bytes())
+        self.assertRegex(self.file.name, rf"^bovtrila-network_{re.escape(program.version())}-\d{{8}}\.\d{{6}}_all\.deb$")
+
+    def test_it_needs_the_program_of_the_same_version(self):
+        version = self.field("Version")
+        self.assertIn(f"bovtrila (= {version})", self.field("Depends"))
+        self.assertEqual(version, self.package.name.split("_")[1])
+
+    def test_what_the_tools_import_is_a_package_that_it_names(self):
+        """Modules that are neither Python's nor the tools' own, and Debian's package of each."""
+        packages = {"psycopg2": "Depends", "distributed": "Suggests", "dask": "Suggests"}
+        named = {"psycopg2": "python3-psycopg2", "distributed": "python3-distributed", "dask": "python3-distributed"}
+        folder = self.network / "usr" / "share" / "bovtrila" / "network"
+        own = {path.stem for path in folder.glob("*.py")}
+        imported = {name for path in folder.iterdir() if path.is_file() and path.suffix != ".sql"
+                    for name in re.findall(r"^ *(?:import|from) (\w+)", path.read_text(), re.M)}
+        self.assertEqual(imported - own - sys.stdlib_module_names, set(packages))
+        for name, kind in packages.items():
+            self.assertIn(named[name], self.field(kind))
+        # The charts of the page of a day.
+        self.assertIn("python3-matplotlib", self.field("Recommends"))
+
+    def test_the_station_s_package_has_none_of_it(self):
+        self.assertEqual([path for path in self.tree.rglob("*network*")
+                          if not path.is_relative_to(self.both)], [])
+        shared = {str(path.relative_to(tree)) for tree, other in ((self.tree, self.network), (self.network, self.tree))
+                  for path in tree.rglob("*") if not path.is_dir() and (other / path.relative_to(tree)).exists()}
+        self.assertEqual(shared, set())
+
+    def test_each_file_of_the_list_is_there(self):
+        for _, place in installed.rows(installed.NETWORK):
+            self.assertTrue((self.network / place).is_file(), place)
+        self.assertEqual(installed.commands(installed.NETWORK), [f"network-{name}" for name in TOOLS])
+        for name in TOOLS:
+            link = self.network / "usr" / "bin" / f"bovtrila-network-{name}"
+            self.assertEqual(link.resolve(), self.network / "usr" / "share" / "bovtrila" / "network" / name)
+        # Each file of network/ is installed.
+        have = {path.name for path in (self.network / "usr" / "share" / "bovtrila" / "network").rglob("*")}
+        self.assertEqual({path.name for path in (TOP / "network").rglob("*") if path.suffix != ".pyc"} - have,
+                         {"__pycache__"} & {path.name for path in (TOP / "network").iterdir()})
+
+    def test_each_tool_prints_its_help_by_its_name(self):
+        for name in TOOLS:
+            with self.subTest(name):
+                done = self.called(name, "--help")
+                self.assertEqual((done.returncode, done.stderr), (0, ""))
+                self.assertTrue(done.stdout.startswith(f"usage: bovtrila-network-{name} "), done.stdout)
+                self.assertNotRegex(done.stdout, r"(?<![\w/])(?:network|scripts|docs)/[a-zA-Z]")
+
+    def test_the_first_query_of_the_page(self):
+        """The page's loads, query and audit of a journal that the installed program finds by itself."""
+        home = self.room / "first-query"
+        (home / "alder").mkdir(parents=True)
+        table = self.both / "usr" / "share" / "bovtrila" / "docs" / "example.toml"
+        self.assertEqual(table.read_bytes(), EXAMPLE.read_bytes())
+        journal_of_four(home / "alder" / "station.journal")
+        done = self.called("load", "--station", "Alder", "--journal", "alder/station.journal", "--table", table, folder=home)
+        self.assertEqual((done.returncode, done.stdout, done.stderr),
+                         (0, "Alder station.journal: 4 touches loaded, 4 in all\n", ""))
+        shown = re.search(r"^\$ network/query held --card 1\n((?:.+\n){2})", ANSWERS, re.M)[1]
+        self.assertEqual(self.called("query", "held", "--card", 1, folder=home).stdout.splitlines(), shown.splitlines())
+        audited = self.called("audit", "alder/station.journal", "--table", table, "--database", "network.db", folder=home)
+        self.assertEqual(audited.returncode, 0, audited.stderr)
+        self.assertIn(re.search(r"^alder: sound, .*$", ANSWERS, re.M)[0], audited.stdout)
+        self.assertEqual(list(self.both.rglob("__pycache__")), [])
+
+    def test_a_machine_without_the_program_is_told_its_place(self):
+        alone = self.room / "alone"
+        shutil.copytree(self.both, alone, symlinks=True)
+        (alone / "usr" / "bin" / "bovtrila").unlink()
+        journal_of_four(self.room / "lonely.journal")
+        done = subprocess.run([alone / "usr" / "bin" / "bovtrila-network-load", "--station", "Alder", "--journal",
+                               self.room / "lonely.journal", "--table", EXAMPLE, "--database", self.room / "lonely.db"],
+                              text=True, capture_output=True, timeout=TIME)
+        self.assertEqual((done.returncode, done.stderr), (1, f"load: {alone}/usr/bin/bovtrila: No such file or directory\n"))
+
+    def test_what_the_page_names_is_there(self):
+        text = self.page.read_text()
+        self.assertEqual(re.findall(r"(?<![\w/])(?:docs|scripts|network|packaging|crates)/[\w./-]+", text), [])
+        for named in set(re.findall(r"(/usr/share/[\w./-]*\w)", text)):
+            self.assertTrue((self.both / named.lstrip("/")).exists(), named)
+        for named in set(re.findall(r"(?<!/)\b([A-Z_]+[.]md)", text)):
+            self.assertTrue((self.page.parent / named).is_file(), named)
+        for named in set(re.findall(r"`(bovtrila-[a-z-]+)[` ]", text)):
+            there = ((self.both / "usr" / "bin" / named).is_symlink()
+                     or (self.both / "lib" / "systemd" / "system" / f"{named}.service").is_file()
+                     or named == installed.NETWORK)
+            self.assertTrue(there, named)
+
+    def test_the_pages_of_the_station_name_this_page_where_it_is(self):
+        place = f"/{self.page.relative_to(self.network)}"
+        for page in ("OPERATING.md", "PROTOCOL.md"):
+            text = (self.pages / page).read_text()
+            self.assertIn(place, text)
+            self.assertNotRegex(text, r"(?<!/)\bNETWORK\.md")
+
+    def test_each_tool_has_a_page_of_the_manual_and_completion(self):
+        share = self.network / "usr" / "share"
+        self.assertEqual(sorted(path.name for path in (share / "man").rglob("*.gz")),
+                         [f"bovtrila-network-{name}.1.gz" for name in TOOLS])
+        self.check_manual(share / "man")
+        for name in TOOLS:
+            self.assertTrue((share / "bash-completion" / "completions" / f"bovtrila-network-{name}").is_file(), name)
+            self.assertTrue((share / "zsh" / "vendor-completions" / f"_bovtrila-network-{name}").is_file(), name)
+
+
+def journal_of_four(path):
+    """A journal of the four touches of the page's example."""
+    four = [bytes.fromhex(line) for line in (TOP / "crates" / "tap_server" / "stdin").read_text().split()]
+    path.write_bytes(model.journal_of(four, 1000, 10, model.Table(EXAMPLE.read_text()).digest, model.VERSION))
