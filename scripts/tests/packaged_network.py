@@ -11,7 +11,11 @@ import program
 from harness import EXAMPLE, TIME, TOP
 from packaged_base import Package
 
-TOOLS = ("audit", "check", "detach", "load", "migrate", "query", "report")
+sys.path.append(str(TOP / "network"))
+
+import fleet_file
+
+TOOLS = ("audit", "check", "detach", "fetch", "load", "migrate", "query", "report")
 ANSWERS = (TOP / "docs" / "NETWORK.md").read_text()
 
 
@@ -58,8 +62,10 @@ class NetworkPackage(Package):
         self.assertEqual(imported - own - sys.stdlib_module_names, set(packages))
         for name, kind in packages.items():
             self.assertIn(named[name], self.field(kind))
-        # The charts of the page of a day.
+        # The charts of the page of a day, and the programs that fetch copies.
         self.assertIn("python3-matplotlib", self.field("Recommends"))
+        self.assertIn("openssh-client", self.field("Recommends"))
+        self.assertRegex(self.field("Depends"), r"\brsync\b")
 
     def test_the_station_s_package_has_none_of_it(self):
         self.assertEqual([path for path in self.tree.rglob("*network*")
@@ -127,6 +133,10 @@ class NetworkPackage(Package):
                      or (self.both / "lib" / "systemd" / "system" / f"{named}.service").is_file()
                      or named == installed.NETWORK)
             self.assertTrue(there, named)
+
+    def test_the_sample_of_the_fleet_s_file_is_where_the_tools_name_it(self):
+        done = self.called("fetch", "--check", "--fleet", self.both / fleet_file.SAMPLE.lstrip("/"))
+        self.assertEqual((done.returncode, done.stderr, done.stdout.count("station ")), (0, "", 2))
 
     def test_the_pages_of_the_station_name_this_page_where_it_is(self):
         place = f"/{self.page.relative_to(self.network)}"
