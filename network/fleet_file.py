@@ -133,8 +133,9 @@ def servers_of(rows, line):
         for name in ("name", "from"):
             other = seen.setdefault((name, row[name]), place)
             if other != place:
-                raise Wrong(f"{line(place, name)}{name}: {line(other, name)}has {row[name]!r} already; each server has a "
-                            "different one")
+                earlier = line(other, name).rstrip(": ") or "another server"
+                raise Wrong(f"{line(place, name)}{name}: {earlier} has {row[name]!r} already; each server has a different "
+                            "one")
     return [Server(row["name"], row["station"], row.get("first_card", 1), row["from"].rstrip("/") or "/") for row in rows]
 
 

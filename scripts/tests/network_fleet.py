@@ -70,7 +70,7 @@ class FleetFile(unittest.TestCase):
          "[[server]]"),
         ('name = "alder"', 'name = "alder/1"', "line 6: name: 'alder/1' isn't allowed; write up to 63 letters, digits, "
          'dots, dashes and underscores, as "alder-2"'),
-        ('name = "birch"', 'name = "alder"', "line 11: name: line 6: has 'alder' already; each server has a different one"),
+        ('name = "birch"', 'name = "alder"', "line 11: name: line 6 has 'alder' already; each server has a different one"),
         ('station = "Birch"', "station = 7", "line 12: station: 7 isn't allowed; write the station's name, as \"Alder\""),
         ("100001", '"100001"', "line 13: first_card: '100001' isn't allowed; write the network's number of the server's "
          "card 1, a number from 1 on without quotes, as 100001"),

@@ -15,7 +15,7 @@ sys.path.append(str(TOP / "network"))
 
 import fleet_file
 
-TOOLS = ("audit", "check", "detach", "fetch", "load", "migrate", "query", "report")
+TOOLS = ("audit", "check", "detach", "fetch", "fleet", "load", "migrate", "query", "report")
 ANSWERS = (TOP / "docs" / "NETWORK.md").read_text()
 
 
@@ -133,6 +133,19 @@ class NetworkPackage(Package):
                      or (self.both / "lib" / "systemd" / "system" / f"{named}.service").is_file()
                      or named == installed.NETWORK)
             self.assertTrue(there, named)
+
+    def test_each_unit_starts_a_command_that_is_there(self):
+        units = self.network / "lib" / "systemd" / "system"
+        services = sorted(path.stem for path in units.glob("*.service"))
+        self.assertEqual(services, [f"bovtrila-network-{name}" for name in ("audit", "check", "fetch", "load", "report")])
+        self.assertEqual(services, sorted(path.stem for path in units.glob("*.timer")))
+        for name in services:
+            text = (units / f"{name}.service").read_text()
+            command = re.search(r"^ExecStart=(/usr/bin/\S+)", text, re.M)[1]
+            self.assertTrue((self.network / command.lstrip("/")).is_symlink(), command)
+            for page, section in re.findall(r"man:(\S+)\((\d)\)", text):
+                manual = self.network / "usr" / "share" / "man" / f"man{section}" / f"{page}.{section}.gz"
+                self.assertTrue(manual.is_file(), page)
 
     def test_the_sample_of_the_fleet_s_file_is_where_the_tools_name_it(self):
         done = self.called("fetch", "--check", "--fleet", self.both / fleet_file.SAMPLE.lstrip("/"))
