@@ -34,7 +34,7 @@ MOMENT = int.from_bytes(FOUR[0][-4:], "big")
 DAY = "2025-01-06"
 
 
-class Daily(harness.ProgramTest):
+class OfFleet(harness.ProgramTest):
     """Two servers, with the copies that network/fetch would have fetched."""
 
     maxDiff = None
@@ -68,6 +68,10 @@ class Daily(harness.ProgramTest):
     def rows(self, text):
         with contextlib.closing(database.connect(str(self.folder / "network.db"))) as base:
             return base.table(text)[1]
+
+
+class Daily(OfFleet):
+    """What each act does and prints."""
 
     LOADED = ("alder station.journal: 4 touches loaded, 4 in all\nbirch station.journal: 1 touches loaded, 1 in all\n")
 

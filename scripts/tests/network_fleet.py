@@ -232,6 +232,21 @@ class Fetches(unittest.TestCase):
         self.assertEqual(self.have(), {"alder/station.journal": newer})
         self.assertEqual([path.name for path in (self.copies / "alder").iterdir()], ["station.journal"])
 
+    def test_the_moment_of_each_server_s_last_fetch(self):
+        def moments():
+            text = (self.room / "network" / "metrics" / "bovtrila-network-fetch.prom").read_text()
+            return {server: int(moment) for server, moment in re.findall(r'_seconds{server="(\w+)",.*} (\d+)', text)}
+        begun = int(time.time())
+        self.assertEqual(self.fetch("alder")[0], 0)
+        first = moments()
+        self.assertTrue(begun <= first["alder"] <= time.time(), first)
+        self.assertEqual(first["birch"], 0)
+        self.write(alder="/gone", birch=f"birch.example:{self.there}")
+        self.assertEqual(self.fetch()[0], 1)
+        second = moments()
+        self.assertEqual(second["alder"], first["alder"])
+        self.assertTrue(begun <= second["birch"] <= time.time(), second)
+
     def test_two_runs_at_once(self):
         self.assertEqual(self.fetch()[0], 0)
         holder = subprocess.Popen(["flock", self.copies, "sh", "-c", "echo held; read line"], stdin=subprocess.PIPE,

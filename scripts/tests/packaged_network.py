@@ -147,6 +147,12 @@ class NetworkPackage(Package):
                 manual = self.network / "usr" / "share" / "man" / f"man{section}" / f"{page}.{section}.gz"
                 self.assertTrue(manual.is_file(), page)
 
+    def test_the_alert_rules_are_those_of_the_repository(self):
+        installed_rules = (self.network / "usr" / "share" / "bovtrila" / "network-alerts.yml").read_text()
+        expressions = re.findall(r"^ +expr: .*", installed_rules, re.M)
+        self.assertEqual(expressions, re.findall(r"^ +expr: .*", (TOP / "packaging" / "network" / "alerts.yml").read_text(),
+                                                 re.M))
+
     def test_the_sample_of_the_fleet_s_file_is_where_the_tools_name_it(self):
         done = self.called("fetch", "--check", "--fleet", self.both / fleet_file.SAMPLE.lstrip("/"))
         self.assertEqual((done.returncode, done.stderr, done.stdout.count("station ")), (0, "", 2))
