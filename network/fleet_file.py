@@ -80,7 +80,8 @@ def fault_of_card(value):
 
 
 def fault_of_source(value):
-    if not (is_text(value) and (value.startswith("/") or re.fullmatch(rf"{HOST}:[^:].*", value))):
+    # rsync's own servers, HOST::FOLDER and rsync://HOST, encrypt nothing.
+    if not (is_text(value) and (value.startswith("/") or re.fullmatch(rf"(?!rsync://){HOST}:[^:].*", value))):
         return 'write a folder from / on, as "/srv/copies/alder", or "HOST:FOLDER" or "USER@HOST:FOLDER"'
     return None
 

@@ -81,6 +81,9 @@ class FleetFile(unittest.TestCase):
          '"/srv/copies/alder", or "HOST:FOLDER" or "USER@HOST:FOLDER"'),
         ("/srv/copies/alder/", "-e:x", "line 8: from: '-e:x' isn't allowed; write a folder from / on, as "
          '"/srv/copies/alder", or "HOST:FOLDER" or "USER@HOST:FOLDER"'),
+        *(("/srv/copies/alder/", other, f"line 8: from: '{other}' isn't allowed; write a folder from / on, as "
+           '"/srv/copies/alder", or "HOST:FOLDER" or "USER@HOST:FOLDER"')
+          for other in ("rsync://alder.example/copies", "alder.example::copies", "alder.example:")),
         ('from = "/srv/copies/alder/"\n', "", "line 5: this [[server]] has no setting 'from'; write a folder from / on, as "
          '"/srv/copies/alder", or "HOST:FOLDER" or "USER@HOST:FOLDER"'),
         ('station = "Birch"', "station = Birch", "line 12, column 11: Invalid value; write NAME = VALUE, with text in "
