@@ -92,7 +92,7 @@ class NetworkPackage(Package):
                 done = self.called(name, "--help")
                 self.assertEqual((done.returncode, done.stderr), (0, ""))
                 self.assertTrue(done.stdout.startswith(f"usage: bovtrila-network-{name} "), done.stdout)
-                self.assertNotRegex(done.stdout, r"(?<![\w/])(?:network|scripts|docs)/[a-zA-Z]")
+                self.assertNotRegex(done.stdout, r"(?<![\w/-])(?:network|scripts|docs)/[a-zA-Z]")
 
     def test_the_first_query_of_the_page(self):
         """The page's loads, query and audit of a journal that the installed program finds by itself."""
@@ -123,7 +123,7 @@ class NetworkPackage(Package):
 
     def test_what_the_page_names_is_there(self):
         text = self.page.read_text()
-        self.assertEqual(re.findall(r"(?<![\w/])(?:docs|scripts|network|packaging|crates)/[\w./-]+", text), [])
+        self.assertEqual(re.findall(r"(?<![\w/-])(?:docs|scripts|network|packaging|crates)/[\w./-]+", text), [])
         for named in set(re.findall(r"(/usr/share/[\w./-]*\w)", text)):
             self.assertTrue((self.both / named.lstrip("/")).exists(), named)
         for named in set(re.findall(r"(?<!/)\b([A-Z_]+[.]md)", text)):
