@@ -87,7 +87,7 @@ def names(text, package=STATION):
         text = pattern.sub(name, text)
     text = re.sub(r"\bdocs/([A-Z_]+\.md)", lambda match: page_name(match[1], package), text)
     text = text.replace("crates/tap_server/stdin", f"{SHARE}/requests.txt")
-    text = re.sub(r"(?<![\w/.-])network/(\w+\.sql|migrations)\b", rf"{SHARE}/network/\1", text)
+    text = re.sub(r"(?<![\w/.-])network/(\w+\.(?:sql|json)|migrations)\b", rf"{SHARE}/network/\1", text)
     text = re.sub(r"(?<![\w/.])clients/(c|wireshark)\b", rf"{SHARE}/clients/\1", text)
     return re.sub(r"(?<![\w/])docs/(example\.toml|vectors[a-z-]*\.t)", rf"{SHARE}/docs/\1", text)
 

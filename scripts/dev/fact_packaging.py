@@ -25,7 +25,7 @@ def unit_row(own: dict[str, str]) -> str:
         ends += f", not after status {own['RestartPreventExitStatus']}" if "RestartPreventExitStatus" in own else ""
         ends += f"; {own['SuccessExitStatus']} is no failure" if "SuccessExitStatus" in own else ""
     modes = [own["StateDirectoryMode"]] if "StateDirectoryMode" in own else []
-    return " | ".join([own["User"], ends, own.get("LimitNOFILE", ""), ", ".join([*modes, f"0{0o666 & ~int(own['UMask'], 8):o}"])])
+    return " | ".join([own.get("User", "root"), ends, own.get("LimitNOFILE", ""), ", ".join([*modes, f"0{0o666 & ~int(own['UMask'], 8):o}"])])
 
 
 def units(top: pathlib.Path) -> Region:

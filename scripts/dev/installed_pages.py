@@ -5,15 +5,15 @@ import re
 
 import installed
 
-DOC = "usr/share/doc/bovtrila/"
+DOC = "usr/share/doc/"
 NAME = re.compile(r"(?<![\w/])[A-Z_]+\.md\b")
 PLACE = re.compile(r"/usr/share/bovtrila/[\w./-]*\w")
 
 
 def pages():
     """The texts of the installed pages, by their names."""
-    files = (file for file, place in installed.rows() if place.startswith(DOC) and file.suffix == ".md")
-    return {file.name: installed.page(file.read_text()) for file in files}
+    return {file.name: installed.page(file.read_text(), package) for package in installed.LISTS
+            for file, place in installed.rows(package) if place.startswith(DOC) and file.suffix == ".md"}
 
 
 def is_of_sources(text, path):
@@ -26,7 +26,7 @@ def is_of_sources(text, path):
 def faults(name, texts, cited, own, sections, headings):
     """What a page cites that isn't there, by what reads a citation, one of the page itself, its sections, and the headings of
     a text."""
-    text, places = texts[name], [f"/{place}" for _, place in installed.rows()]
+    text, places = texts[name], [f"/{place}" for package in installed.LISTS for _, place in installed.rows(package)]
     for page in sorted(set(NAME.findall(text)) - texts.keys()):
         if not is_of_sources(text, page):
             yield f"no page {page} is installed"
@@ -43,4 +43,4 @@ def faults(name, texts, cited, own, sections, headings):
             yield f"no {path} is installed"
     for place in PLACE.findall(text):
         if not any(one == place or one.startswith(f"{place}/") for one in places):
-            yield f"the package has no {place}"
+            yield f"no package has {place}"

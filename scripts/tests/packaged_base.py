@@ -12,6 +12,7 @@ import unittest
 
 import debs
 import harness
+import script_help
 
 
 @functools.cache
@@ -40,6 +41,7 @@ class Package(harness.ProgramTest):
             raise unittest.SkipTest(debs.lacking())
         cls.room, (cls.package, cls.told), (cls.again, _) = made_twice()
         cls.tree, cls.network = cls.room / "tree", cls.room / "network"
+        cls.help, cls.gate = (script_help.of(cls.tree / "usr" / "bin" / name) for name in ("bovtrila", "gate_send"))
         cls.share, cls.pages = cls.tree / "usr" / "share" / "bovtrila", cls.tree / "usr" / "share" / "doc" / "bovtrila"
 
     def check_manual(self, folder):
