@@ -26,6 +26,8 @@ SERIES = {
     'bovtrila_enquiry_seconds_bucket{instance="birch",le="0.0025"}': "0x2880",
     'bovtrila_enquiry_seconds_bucket{instance="birch",le="0.005"}': "0+12x2880",
     'bovtrila_enquiry_seconds_bucket{instance="birch",le="+Inf"}': "0+12x2880",
+    'bovtrila_next_journal_enabled{instance="alder"}': "1x2880", 'bovtrila_next_journal_enabled{instance="birch"}': "1x2880",
+    'bovtrila_next_journal_failed{instance="alder"}': "0x2880", 'bovtrila_next_journal_failed{instance="birch"}': "1x2880",
     'bovtrila_disk_free_bytes{instance="alder"}': "9000x2880",
     'bovtrila_journal_missing_bytes{instance="alder"}': "4000x2880",
     'bovtrila_last_touch_timestamp_seconds{instance="alder"}': "172740x2880",
@@ -35,7 +37,8 @@ SERIES = {
 ALDER, BIRCH = '{instance="alder"}', '{instance="birch"}'
 SHOWN = {
     "Servers that answer": [("{}", 1)], "Servers that are halted": [("{}", 1)], "Touches a minute": [(ALDER, 1)],
-    "Fullest journal": [("{}", 0.5)], "Time of an answer, 99 of 100": [(BIRCH, 0.0025 + 0.99 * 0.0025)],
+    "Fullest journal": [("{}", 0.5)], "Timers for a new journal, and changes that failed": [("{}", 2), ("{}", 1)],
+    "Time of an answer, 99 of 100": [(BIRCH, 0.0025 + 0.99 * 0.0025)],
     "Days until the journal is full": [(ALDER, 2)], "Disk beyond what the journal needs": [(ALDER, 5000)],
     "Since the last touch": [(ALDER, 60)],
     "Age of copies and seals": [('bovtrila_copy_age_seconds{instance="alder"}', 100),
