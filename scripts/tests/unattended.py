@@ -4,14 +4,42 @@ import shutil
 import signal
 import subprocess
 import time
+import unittest
 
 import due
+import handover
 import killing
 import model
 import serving
 import wire
 from full_station import FAR, FIRST, MORNING, RUN, SCRIPT, Stations
 from harness import PROGRAM, TIME
+
+
+# What `balances` prints of two cards, of which the second one owes 7.10 pounds, and the sums of the requests that carry it.
+TABLE = "card,state,balance,paid_in,charged\r\n1,outside,1650,2000,350\r\n2,inside,-710,190,900\r\n"
+SUMS = "cards 2\nbalance 940\npaid_in 2190\ncharged 1250\nbalanced\n"
+CARRYING = {"balances": 940, "carried": 1500, "left": 150, "owed": 710}
+
+
+class Sums(unittest.TestCase):
+    """The sums that a run compares before it uses a new journal."""
+
+    def test_printed_sums_are_those_of_their_lines(self):
+        handover.check_printed(SUMS, TABLE)
+        handover.check_printed("note: 3 open slots behind the end: verify ends with status 3\n" + SUMS, TABLE)
+        for line in SUMS.splitlines()[:4]:
+            name, _, value = line.partition(" ")
+            for other in (f"{name} {int(value) + 1}", f"{name} {int(value) - 1}", ""):
+                with self.subTest(other), self.assertRaisesRegex(wire.Wrong, f"balances: {name} is "):
+                    handover.check_printed(SUMS.replace(line, other), TABLE)
+
+    def test_the_requests_carry_what_the_old_journal_holds(self):
+        held = handover.balances_of(TABLE)
+        handover.check_sums(held, CARRYING)
+        for name in CARRYING:
+            with self.subTest(name), self.assertRaisesRegex(wire.Wrong, "the old journal's balances come to 940"):
+                handover.check_sums(held, {**CARRYING, name: CARRYING[name] + 1})
 
 
 class Unattended(Stations):
