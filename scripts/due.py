@@ -54,7 +54,8 @@ def unfinished(folder, journal):
     any."""
     for file in sorted(folder.glob("after-*/plan.json")):
         plan = plan_of(file.parent)
-        if plan["new"] == journal and plan.get("unattended") and not (file.parent / "page").exists():
+        is_finished = (file.parent / "page").exists() and not (file.parent / old_server.STOPPED).exists()
+        if plan["new"] == journal and plan.get("unattended") and not is_finished:
             return plan["old"]
     return None
 

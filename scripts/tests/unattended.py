@@ -229,6 +229,15 @@ class Unattended(Stations):
             shutil.rmtree(station.folder)
         self.assertGreater(place, 50)
 
+    def test_a_run_that_was_cut_off_at_its_very_end_is_finished_too(self):
+        station = self.station()
+        station.start()
+        self.assertEqual(station.alone()[::2], (0, ""))
+        # What is removed last.
+        (station.folder / "after-station.journal" / "stopped").touch()
+        self.assertEqual(station.alone()[::2], (0, ""))
+        self.assert_carried(station, 9)
+
     def test_what_was_begun_by_hand_is_left_to_a_person(self):
         station = self.station()
         station.start()
