@@ -3,6 +3,7 @@
 import pathlib
 
 import gates
+import journeys
 
 HERE = pathlib.Path(__file__).resolve().parent
 COLUMNS = ("card", "place", "state", "balance", "transferred", "paid_in", "charged", "travel_moment", "travel_day")
@@ -65,7 +66,7 @@ def advance(base, journal, stage, first):
 
 def copy_stage(base, journal, old, new):
     """Gives a stage of a journal the rows of another."""
-    for table, columns in (("balances", COLUMNS), ("gates", gates.COLUMNS)):
+    for table, columns in (("balances", COLUMNS), ("gates", gates.COLUMNS), ("last_journeys", journeys.NAMES)):
         base.execute(f"DELETE FROM {table} WHERE journal = :journal AND stage = :stage", journal=journal, stage=new)
         names = ", ".join(columns)
         base.execute(f"INSERT INTO {table} (journal, stage, {names}) SELECT journal, :new, {names} FROM {table}"
@@ -89,6 +90,7 @@ def check(base, journal, everything=False):
     found += base.table(DIFFERENT, journal=journal)[1]
     gates.advance(base, journal, "checked", first, row["touches"])
     found += gates.breaches(base, journal)
+    found += journeys.breaches(base, journal, first, row["touches"])
     if not found:
         base.execute("UPDATE journals SET checked = touches WHERE journal = :journal", journal=journal)
     return found

@@ -26,13 +26,14 @@ COLUMNS = ("journal", "place", "moment", "day", "gate", "number", "card", "act",
 # Under which number PostgreSQL holds off whoever else makes the tables, and how long SQLite waits for another load.
 MAKING, PATIENCE = 4014, 3600
 # The version of network/schema.sql.
-VERSION = 4
+VERSION = 5
 # The settings of a connection to PostgreSQL. The tables are in the schema bovtrila; those of an earlier version are in the
 # first schema that the user's own path has. PostgreSQL would compile a plan for each month's partition, which takes longer
-# than running the plan.
+# than running the plan. The sums by two stations fit into this memory, so that no rows are sorted for them.
 SETTINGS = """
 SET TIME ZONE 'UTC';
 SET jit = off;
+SET work_mem = '32MB';
 SELECT set_config('search_path', concat_ws(', ', 'bovtrila', nullif(current_setting('search_path'), '')), false);
 """
 # How a parameter stands in a statement.
@@ -184,8 +185,13 @@ class Postgres(Database):
         self.connection.commit()
 
     def lines(self, text):
-        """What a SELECT gives, as lines of comma-separated values."""
-        with self.copied(text) as file:
+        """What a SELECT gives, as lines of comma-separated values. All of it is read at once, so that other statements can run
+        while the lines are taken."""
+        return self.each_of(self.copied(text))
+
+    @staticmethod
+    def each_of(file):
+        with file:
             yield from file
 
     def copied(self, text):
@@ -199,9 +205,14 @@ class Postgres(Database):
                         " folder by TMPDIR") from None
         return file
 
-    def copy(self, lines):
-        """Copies rows into `touches`, each a line of comma-separated values."""
-        text = f"COPY touches ({', '.join(COLUMNS)}) FROM STDIN (FORMAT csv)"
+    def match_months(self):
+        """Makes the partition of `journeys` for each month that has one of `touches`."""
+        self.execute("SELECT make_month(to_date(right(relid::text, 7), 'YYYY_MM')) FROM pg_partition_tree('touches')"
+                     " WHERE isleaf AND relid::text ~ '[0-9]{4}_[0-9]{2}$'")
+
+    def copy(self, lines, table="touches", columns=COLUMNS):
+        """Copies rows into a table, each a line of comma-separated values."""
+        text = f"COPY {table} ({', '.join(columns)}) FROM STDIN (FORMAT csv)"
         self.connection.cursor().copy_expert(text, Pieces(lines))
 
 
@@ -270,13 +281,16 @@ class Sqlite(Database):
     def make_months(self, days):
         """SQLite has no partitions."""
 
+    def match_months(self):
+        """SQLite has no partitions."""
+
     def lines(self, text):
         """What a SELECT gives, as lines of comma-separated values."""
         for row in self.execute(text):
             yield ",".join("" if field is None else str(field) for field in row) + "\n"
 
-    def copy(self, lines):
-        text = f"INSERT INTO touches ({', '.join(COLUMNS)}) VALUES ({', '.join('?' * len(COLUMNS))})"
+    def copy(self, lines, table="touches", columns=COLUMNS):
+        text = f"INSERT INTO {table} ({', '.join(columns)}) VALUES ({', '.join('?' * len(columns))})"
         self.connection.executemany(text, ([field or None for field in row] for row in csv.reader(lines)))
 
 

@@ -128,3 +128,74 @@ SELECT servers.station, server, journal, followed_by, held, transferred, differe
 FROM transfers
 JOIN servers ON servers.name = transfers.server
 ORDER BY servers.station, server, journal;
+
+-- name: fares
+-- The journeys by origin and destination: how many began on these days, the sum of their single fares, and what they were
+-- charged after caps.
+-- indexes: journeys_day
+SELECT origin, began_at.name AS origin_name, began_at.zones AS origin_zones, destination, ended_at.name AS destination_name,
+       ended_at.zones AS destination_zones, sum(journeys) AS journeys,
+       CASE WHEN count(fares) = count(*) THEN sum(fares) END AS fares, sum(charged) AS charged
+FROM (SELECT last_table, origin, destination, count(*) AS journeys,
+             CASE WHEN count(fare) = count(*) THEN sum(fare) END AS fares, sum(charged) AS charged
+      FROM travel
+      WHERE day BETWEEN :first AND :last AND kind = 'journey'
+      GROUP BY last_table, origin, destination) AS sums
+LEFT JOIN fare_stations AS began_at ON began_at.digest = last_table AND began_at.number = origin
+LEFT JOIN fare_stations AS ended_at ON ended_at.digest = last_table AND ended_at.number = destination
+GROUP BY origin, began_at.name, began_at.zones, destination, ended_at.name, ended_at.zones
+ORDER BY origin, destination, origin_name, destination_name, origin_zones, destination_zones;
+
+-- name: origins
+-- What was charged by the station of the touch in: journeys, their single fares and charges; and the touches in and out that
+-- are of no journey, with their maxima. Touches out without a touch in have no origin. Cards that are inside aren't counted.
+-- indexes: journeys_day
+SELECT origin, name, zones, sum(journeys) AS journeys, CASE WHEN count(fares) = count(*) THEN sum(fares) END AS fares,
+       sum(charged) AS charged, sum(incomplete) AS incomplete, sum(maxima) AS maxima
+FROM (SELECT last_table, origin, sum(CASE kind WHEN 'journey' THEN 1 ELSE 0 END) AS journeys,
+             CASE WHEN count(CASE WHEN kind = 'journey' AND fare IS NULL THEN 1 END) = 0
+                 THEN coalesce(sum(fare), 0) END AS fares,
+             sum(CASE kind WHEN 'journey' THEN charged ELSE 0 END) AS charged,
+             sum(CASE kind WHEN 'journey' THEN 0 ELSE 1 END) AS incomplete,
+             sum(CASE kind WHEN 'journey' THEN 0 ELSE charged END) AS maxima
+      FROM travel
+      WHERE day BETWEEN :first AND :last AND kind <> 'inside'
+      GROUP BY last_table, origin) AS sums
+LEFT JOIN fare_stations ON digest = last_table AND number = origin
+GROUP BY origin, name, zones
+ORDER BY coalesce(origin, 0), name, zones;
+
+-- name: destinations
+-- The same by the station of the touch out. Touches in without a touch out have no destination.
+-- indexes: journeys_day
+SELECT destination, name, zones, sum(journeys) AS journeys, CASE WHEN count(fares) = count(*) THEN sum(fares) END AS fares,
+       sum(charged) AS charged, sum(incomplete) AS incomplete, sum(maxima) AS maxima
+FROM (SELECT last_table, destination, sum(CASE kind WHEN 'journey' THEN 1 ELSE 0 END) AS journeys,
+             CASE WHEN count(CASE WHEN kind = 'journey' AND fare IS NULL THEN 1 END) = 0
+                 THEN coalesce(sum(fare), 0) END AS fares,
+             sum(CASE kind WHEN 'journey' THEN charged ELSE 0 END) AS charged,
+             sum(CASE kind WHEN 'journey' THEN 0 ELSE 1 END) AS incomplete,
+             sum(CASE kind WHEN 'journey' THEN 0 ELSE charged END) AS maxima
+      FROM travel
+      WHERE day BETWEEN :first AND :last AND kind <> 'inside'
+      GROUP BY last_table, destination) AS sums
+LEFT JOIN fare_stations ON digest = last_table AND number = destination
+GROUP BY destination, name, zones
+ORDER BY coalesce(destination, 0), name, zones;
+
+-- name: caps
+-- The use of caps by fare day: the journeys with their single fares and charges, what the caps saved, and the cards for which
+-- they saved something on that day. Journeys whose fare isn't known aren't counted.
+-- indexes: journeys_day
+SELECT day, sum(journeys) AS journeys, sum(fares) AS fares, sum(charged) AS charged, sum(fares) - sum(charged) AS saved,
+       sum(cards) AS capped_cards
+FROM (SELECT day, count(*) AS journeys, sum(fare) AS fares, sum(charged) AS charged, 0 AS cards
+      FROM travel
+      WHERE day BETWEEN :first AND :last AND fare IS NOT NULL
+      GROUP BY day
+      UNION ALL
+      SELECT day, 0, 0, 0, count(*)
+      FROM (SELECT DISTINCT day, journal, server_card FROM travel WHERE day BETWEEN :first AND :last AND charged < fare) AS capped
+      GROUP BY day) AS sums
+GROUP BY day
+ORDER BY day;

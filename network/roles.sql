@@ -38,9 +38,11 @@ ALTER TYPE verdict OWNER TO bovtrila_owner;
 ALTER FUNCTION make_month(date) OWNER TO bovtrila_owner;
 REVOKE EXECUTE ON FUNCTION make_month(date) FROM PUBLIC;
 
-GRANT SELECT ON schema_version, stations, servers, fare_tables, journals, revisions, touches, balances, gates,
-    detached_months, history, held, last_loads, transfers TO bovtrila_loader, bovtrila_reader;
-GRANT INSERT ON stations, servers, fare_tables, journals, revisions, touches, balances, gates TO bovtrila_loader;
+GRANT SELECT ON schema_version, stations, servers, fare_tables, fare_stations, journals, revisions, touches, balances, gates,
+    journeys, last_journeys, detached_months, history, held, last_loads, transfers, travel
+    TO bovtrila_loader, bovtrila_reader;
+GRANT INSERT ON stations, servers, fare_tables, fare_stations, journals, revisions, touches, balances, gates, journeys,
+    last_journeys TO bovtrila_loader;
 GRANT UPDATE ON journals, balances, gates TO bovtrila_loader;
-GRANT DELETE ON balances, gates TO bovtrila_loader;
+GRANT DELETE ON balances, gates, last_journeys TO bovtrila_loader;
 GRANT EXECUTE ON FUNCTION make_month(date) TO bovtrila_loader;

@@ -28,7 +28,7 @@ CREATE TYPE verdict AS ENUM (
 CREATE TABLE schema_version (
     version integer NOT NULL
 );
-INSERT INTO schema_version (version) VALUES (4);
+INSERT INTO schema_version (version) VALUES (5);
 
 CREATE TABLE stations (
     name text PRIMARY KEY CHECK (name <> '')
@@ -48,10 +48,20 @@ CREATE TABLE fare_tables (
     CHECK (/*pg*/ digest = encode(sha256(content), 'hex') /*end*/ /*sqlite length(digest) = 64 */)
 );
 
+-- The stations of each fare table that Python can read. zones is '2', or '2/3' of a station in two zones.
+CREATE TABLE fare_stations (
+    digest text NOT NULL REFERENCES fare_tables,
+    number integer NOT NULL CHECK (number BETWEEN 1 AND 65535),
+    name text NOT NULL CHECK (name <> ''),
+    zones text NOT NULL CHECK (zones <> ''),
+    PRIMARY KEY (digest, number)
+);
+
 -- digest is that of the first fare table, touches how many were loaded, and seal the digest of their bytes and the
 -- header's (docs/AUDIT.md, "A seal"). A closed journal is one that another follows: its balances were transferred there,
 -- by top-ups of the gate transfer_gate of the new journal. The first `checked` touches were checked by network/check, and
--- `base` is the place that a check of everything begins with, above 0 after network/detach.
+-- `base` is the place that a check of everything begins with, above 0 after network/detach. last_table is the fare table of the
+-- last accepted revision, or the first one.
 CREATE TABLE journals (
     journal integer /*pg*/ GENERATED ALWAYS AS IDENTITY /*end*/ PRIMARY KEY,
     server text NOT NULL REFERENCES servers,
@@ -67,6 +77,7 @@ CREATE TABLE journals (
     transfer_gate integer NOT NULL DEFAULT 65535 CHECK (transfer_gate BETWEEN 0 AND 65535),
     checked integer NOT NULL DEFAULT 0,
     base integer NOT NULL DEFAULT 0,
+    last_table text REFERENCES fare_tables,
     CHECK (touches BETWEEN 0 AND capacity),
     UNIQUE (server, name)
 );
@@ -169,4 +180,63 @@ CREATE TABLE gates (
 -- The months whose partitions network/detach has detached, each by its first day.
 CREATE TABLE detached_months (
     month /*pg*/ date /*end*/ /*sqlite text */ PRIMARY KEY
+);
+
+-- What each touch in or out of a card was charged for (docs/NETWORK.md, "Journeys"). Each is of one row: a journey; a touch in
+-- that was unfinished, because another touch in followed; a touch in with a touch out that was late; or a touch out that was
+-- unstarted. place is that of the row's first touch, and day that touch's fare day. settled is the place of the touch since
+-- which no touch can change the row. charged is less what was given back.
+CREATE TABLE journeys (
+    journal integer NOT NULL REFERENCES journals,
+    settled integer NOT NULL CHECK (settled >= place),
+    place integer NOT NULL CHECK (place >= 0),
+    kind text NOT NULL CHECK (kind IN ('journey', 'unfinished', 'late', 'unstarted')),
+    card bigint NOT NULL,
+    day /*pg*/ date /*end*/ /*sqlite text */ NOT NULL,
+    began /*pg*/ timestamp with time zone /*end*/ /*sqlite text */,
+    ended /*pg*/ timestamp with time zone /*end*/ /*sqlite text */,
+    origin integer,
+    destination integer,
+    legs integer NOT NULL CHECK (legs >= 0),
+    changes text,
+    band text CHECK (band IN ('peak', 'off-peak')),
+    fare integer CHECK (fare > 0),
+    charged integer NOT NULL CHECK (charged >= 0),
+    CONSTRAINT journeys_fields CHECK (
+        (kind = 'journey') = (legs > 0) AND (changes IS NOT NULL) = (legs > 1) AND (fare IS NULL OR kind = 'journey')
+        AND (began IS NULL) = (kind = 'unstarted') AND (origin IS NULL) = (kind = 'unstarted')
+        AND (ended IS NULL) = (kind = 'unfinished') AND (destination IS NULL) = (kind = 'unfinished')),
+    -- Caps make a journey cheaper, and never dearer.
+    CONSTRAINT journeys_charged CHECK (fare IS NULL OR charged <= fare)
+    /*sqlite , PRIMARY KEY (journal, settled, place) */
+) /*pg*/ PARTITION BY RANGE (day) /*end*/;
+
+-- For the queries fares, origins, destinations and caps: the rows of some fare days.
+CREATE INDEX journeys_day ON journeys (day);
+
+/*pg*/
+-- The journeys of days whose month has no partition.
+CREATE TABLE journeys_other (LIKE journeys INCLUDING CONSTRAINTS, PRIMARY KEY (journal, settled, place));
+ALTER TABLE journeys ATTACH PARTITION journeys_other DEFAULT;
+/*end*/
+
+-- What a card's next touch may still change, by the stages of `balances`: the card's last journey, if it may be continued, and
+-- the touch in of a card that is inside. The columns are those of `journeys`.
+CREATE TABLE last_journeys (
+    journal integer NOT NULL REFERENCES journals,
+    stage text NOT NULL CHECK (stage IN ('loaded', 'checked', 'detached')),
+    place integer NOT NULL,
+    kind text NOT NULL CHECK (kind IN ('journey', 'inside')),
+    card bigint NOT NULL,
+    day /*pg*/ date /*end*/ /*sqlite text */ NOT NULL,
+    began /*pg*/ timestamp with time zone /*end*/ /*sqlite text */ NOT NULL,
+    ended /*pg*/ timestamp with time zone /*end*/ /*sqlite text */,
+    origin integer NOT NULL,
+    destination integer,
+    legs integer NOT NULL,
+    changes text,
+    band text CHECK (band IN ('peak', 'off-peak')),
+    fare integer,
+    charged integer NOT NULL,
+    PRIMARY KEY (journal, stage, card, place)
 );

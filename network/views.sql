@@ -2,34 +2,41 @@
 -- The views over network/schema.sql and the function that makes a partition. A migration makes them anew.
 
 DROP VIEW IF EXISTS violations;
+DROP VIEW IF EXISTS travel;
 DROP VIEW IF EXISTS transfers;
 DROP VIEW IF EXISTS last_loads;
 DROP VIEW IF EXISTS held;
 DROP VIEW IF EXISTS history;
 
 /*pg*/
--- Makes the partition of the month of a day, where there is none. Each has keys of its own: a place, and a gate's number,
+-- Makes the partitions of the month of a day, where there are none. Each has keys of its own: a place, and a gate's number,
 -- stand once in it. A key over all partitions would have to name the day as well, and so promise neither; the view
--- network/check finds what stands once in each of two months. Touches of the month that are in touches_other move there.
--- Attaching locks touches_other, so a load commits the new months before it does anything else. The function has the rights
--- of its owner: whoever loads needn't own the tables (network/roles.sql).
+-- network/check finds what stands once in each of two months. Rows of the month that are in touches_other and journeys_other
+-- move there. Attaching locks these two, so a load commits the new months before it does anything else. The function has the
+-- rights of its owner: whoever loads needn't own the tables (network/roles.sql).
 CREATE OR REPLACE FUNCTION make_month(a_day date) RETURNS void LANGUAGE plpgsql SECURITY DEFINER
     SET search_path = bovtrila, pg_temp AS $$
 DECLARE
     first date := date_trunc('month', a_day);
     later date := first + interval '1 month';
-    name text := 'touches_' || to_char(first, 'YYYY_MM');
+    parent text;
+    keys text;
+    name text;
 BEGIN
-    IF to_regclass(name) IS NULL THEN
-        LOCK TABLE touches IN SHARE UPDATE EXCLUSIVE MODE;
-    END IF;
-    IF to_regclass(name) IS NULL THEN
-        EXECUTE format('CREATE TABLE %I (LIKE touches INCLUDING CONSTRAINTS, CHECK (day >= %L AND day < %L),'
-                       ' PRIMARY KEY (journal, place), UNIQUE (journal, gate, number))', name, first, later);
-        EXECUTE format('WITH moved AS (DELETE FROM touches_other WHERE day >= %L AND day < %L RETURNING *)'
-                       ' INSERT INTO %I SELECT * FROM moved', first, later, name);
-        EXECUTE format('ALTER TABLE touches ATTACH PARTITION %I FOR VALUES FROM (%L) TO (%L)', name, first, later);
-    END IF;
+    FOR parent, keys IN VALUES ('touches', 'PRIMARY KEY (journal, place), UNIQUE (journal, gate, number)'),
+                               ('journeys', 'PRIMARY KEY (journal, settled, place)') LOOP
+        name := parent || to_char(first, '_YYYY_MM');
+        IF to_regclass(name) IS NULL THEN
+            EXECUTE format('LOCK TABLE %I IN SHARE UPDATE EXCLUSIVE MODE', parent);
+        END IF;
+        IF to_regclass(name) IS NULL THEN
+            EXECUTE format('CREATE TABLE %I (LIKE %I INCLUDING CONSTRAINTS, CHECK (day >= %L AND day < %L), %s)', name, parent,
+                           first, later, keys);
+            EXECUTE format('WITH moved AS (DELETE FROM %I WHERE day >= %L AND day < %L RETURNING *)'
+                           ' INSERT INTO %I SELECT * FROM moved', parent || '_other', first, later, name);
+            EXECUTE format('ALTER TABLE %I ATTACH PARTITION %I FOR VALUES FROM (%L) TO (%L)', parent, name, first, later);
+        END IF;
+    END LOOP;
 END $$;
 /*end*/
 
@@ -79,3 +86,16 @@ FROM (SELECT old.server, old.name, new.name AS following,
       JOIN journals AS new ON new.journal = (SELECT min(next.journal) FROM journals AS next
                                              WHERE next.server = old.server AND next.journal > old.journal)
       WHERE old.closed) AS pairs;
+
+-- Each row of journeys and last_journeys with its server, and the card's number in the network (docs/NETWORK.md, "Journeys").
+-- fare_stations has the stations by last_table and number.
+CREATE VIEW travel AS
+SELECT servers.station, servers.name AS server, travelled.journal, last_table, place, kind, first_card + card - 1 AS card,
+       card AS server_card, day, began, ended, origin, destination, legs, changes, band, fare, charged
+FROM (SELECT journal, place, kind, card, day, began, ended, origin, destination, legs, changes, band, fare, charged
+      FROM journeys
+      UNION ALL
+      SELECT journal, place, kind, card, day, began, ended, origin, destination, legs, changes, band, fare, charged
+      FROM last_journeys WHERE stage = 'loaded') AS travelled
+JOIN journals ON journals.journal = travelled.journal
+JOIN servers ON servers.name = journals.server;

@@ -1,8 +1,8 @@
 -- SPDX-License-Identifier: Apache-2.0
 -- From version 3: in PostgreSQL the tables move into the schema bovtrila, with their partitions and the detached months.
 /*pg*/
-DROP VIEW transfers, last_loads, held, history;
-DROP FUNCTION make_month(date);
+DROP VIEW IF EXISTS transfers, last_loads, held, history;
+DROP FUNCTION IF EXISTS make_month(date);
 DO $$
 DECLARE
     old regnamespace := (SELECT relnamespace FROM pg_class WHERE oid = 'journals'::regclass);

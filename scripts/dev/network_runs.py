@@ -50,10 +50,10 @@ def beginning(journal, count, path):
     return path
 
 
-def sizes(base):
-    """The bytes of a row of the touches in PostgreSQL, and of its entries in the indexes, over all months."""
-    asked = ("select sum(pg_relation_size(relid)), sum(pg_indexes_size(relid)), (select count(*) from bovtrila.touches)"
-             " from pg_partition_tree('bovtrila.touches') where isleaf")
+def sizes(base, table):
+    """The bytes of a row of a table in PostgreSQL, and of its entries in the indexes, over all months."""
+    asked = (f"select sum(pg_relation_size(relid)), sum(pg_indexes_size(relid)), (select count(*) from bovtrila.{table})"
+             f" from pg_partition_tree('bovtrila.{table}') where isleaf")
     said = subprocess.run([postgres.programs() / "psql", "-At", "-F", " ", "-c", asked, base], check=True, text=True,
                           stdout=subprocess.PIPE).stdout
     of_rows, of_indexes, count = map(int, said.split())

@@ -65,13 +65,13 @@ def before(kind, name):
 for kind in (database.Postgres, database.Sqlite):
     before(kind, "execute")
     before(kind, "commit")
-    def copy(self, lines, old=kind.copy):
+    def copy(self, lines, *more, old=kind.copy):
         def stepped():
             for count, line in enumerate(lines):
                 if count % 40 == 0:
                     step("copy")
                 yield line
-        return old(self, stepped())
+        return old(self, stepped(), *more)
     kind.copy = copy
 
 loader = importlib.machinery.SourceFileLoader("load", {network!r} + "/load")

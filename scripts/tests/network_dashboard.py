@@ -9,9 +9,11 @@ import shutil
 import subprocess
 import unittest
 
+import model
+import network_travel
 import town
-from harness import TOP
-from network_base import NETWORK, TIME, DatabaseTest, OnPostgres, database, load, room
+from harness import EXAMPLE, TOP
+from network_base import DAYS, NETWORK, TIME, DatabaseTest, OnPostgres, database, load, room
 
 PANELS = json.loads((NETWORK / "dashboard.json").read_text())["panels"]
 # What Grafana puts in the place of its variables here: a rate of five minutes, and Friday and Saturday.
@@ -146,6 +148,19 @@ class DashboardQueries(OnPostgres, DatabaseTest):
                           -sum(touch.change for touch in touches if touch.act in ("in", "out"))])
         self.assertEqual(sum(row[2] for row in self.shown("Journeys that cost a maximum")),
                          sum(touch.verdict in town.MAXIMA for touch in touches))
+
+    def test_takings_and_caps_are_those_of_the_model(self):
+        days = (town.date_text(town.THURSDAY // town.DAY), *DAYS, "2025-02-02")
+        takings = network_travel.Takings(self.town, days, model.Table(EXAMPLE.read_text()))
+        fares = [(row[1], row[4], *row[6:]) for row in takings.fares()]
+        self.assertEqual(self.shown("Takings by origin and destination, pence"),
+                         sorted(fares, key=lambda row: (-row[4], *row[:2]))[:20])
+        for name in ("origin", "destination"):
+            wanted = [(row[1], row[3], *row[5:]) for row in takings.by(name)]
+            self.assertEqual(self.shown(f"Takings by {name}, pence"), sorted(wanted, key=lambda row: (-row[2], -row[4])))
+        caps = self.shown("Caps: cards for which they saved something, and pence saved")
+        self.assertEqual([(row[0][:10], *row[1:]) for row in caps if row[1]],
+                         [(row[0], row[5], row[4]) for row in takings.caps() if row[5]])
 
     def test_refusals_cards_and_loads_are_those_of_the_servers(self):
         refused = [touch for touch in self.within() if not touch.accepted]

@@ -6,9 +6,14 @@ import tempfile
 import unittest
 from unittest import mock
 
+import model
+import network_travel
 import town
+from harness import EXAMPLE
 from network_base import (AT, DAYS, FLIPPED, NETWORK, TIME, VALUES, DatabaseTest, OnPostgres, OnSqlite, call,
                           accounts, database, driven, everything, load, queries, words_of)
+
+TABLE = model.Table(EXAMPLE.read_text())
 
 
 class Queries:
@@ -84,6 +89,18 @@ class Queries:
         self.assertEqual([row[1:3] for row in wanted], [(town.WRONG, town.GATE)])
         self.assertEqual(self.answered("clocks"), wanted)
 
+    def test_takings_of_journeys_and_caps(self):
+        takings = network_travel.Takings(self.town, DAYS, TABLE)
+        self.assertEqual(self.answered("fares"), takings.fares())
+        self.assertEqual(self.answered("origins"), takings.by("origin"))
+        self.assertEqual(self.answered("destinations"), takings.by("destination"))
+        self.assertEqual(self.answered("caps"), takings.caps())
+        # There is something of each kind to be counted.
+        self.assertEqual(takings.by("origin")[0][:4], (None, None, None, 0))
+        self.assertGreater(sum(row[5] for row in takings.caps()), 0)
+        self.assertEqual({row.kind for _, row in takings.rows}, {"journey", "unfinished", "late", "unstarted", "inside"})
+        self.assertGreater(sum(row.legs > 1 for _, row in takings.rows), 0)
+
     def test_rows_one_by_one_are_those_at_once(self):
         with contextlib.closing(database.reading(self.base)) as opened:
             for name in queries.known():
@@ -143,6 +160,10 @@ class Queries:
                        f"UPDATE gates SET moment = '2030-01-01T00:00:00Z' WHERE {of}",
                        f"UPDATE gates SET gate = 9 WHERE {of} AND gate = {town.GATE}"):
             yield f"the row of gate {town.GATE} in gates was changed or removed after its load", change
+        for change in (f"UPDATE journeys SET charged = charged - 1 WHERE {of} AND charged > 0",
+                       f"DELETE FROM journeys WHERE {of}",
+                       f"UPDATE last_journeys SET charged = charged - 1 WHERE {of} AND stage = 'loaded'"):
+            yield "the journey is not that of its touches", change
         yield "travel of the card goes back", set_to.format(what="moment = '2025-01-31T00:00:00Z'", place=out)
         yield "a revision counts from a day with travel, or not above the last one", \
             f"UPDATE revisions SET first_day = 20119 WHERE {of}"
@@ -166,6 +187,12 @@ class Queries:
                 f"UPDATE touches SET gate = 1, number = 1 WHERE {of} AND place < 40", "DELETE FROM journals",
                 "UPDATE journals SET cards = 0", "UPDATE journals SET touches = capacity + 1",
                 "UPDATE journals SET version = 3", "UPDATE servers SET station = 'Nowhere'",
+                "UPDATE journeys SET charged = -1", "UPDATE journeys SET kind = 'ride'", "UPDATE journeys SET journal = 99",
+                "UPDATE journeys SET charged = fare + 1 WHERE kind = 'journey'",
+                "UPDATE journeys SET legs = 0 WHERE kind = 'journey'",
+                "UPDATE journeys SET destination = NULL WHERE kind = 'journey'", "UPDATE journeys SET settled = place - 1",
+                "UPDATE journeys SET band = 'Early'", "UPDATE journeys SET fare = 350 WHERE kind = 'late'",
+                "UPDATE last_journeys SET kind = 'late'", "UPDATE fare_stations SET zones = ''",
                 "UPDATE revisions SET digest = 'none'", "UPDATE revisions SET verdict = 'Entered'",
                 "INSERT INTO fare_tables (digest, content) VALUES ('12', '12')",
                 "INSERT INTO journals (server, name, version, capacity, cards, digest, touches, seal)"
@@ -266,6 +293,13 @@ INSERT INTO balances (journal, stage, card, place, state, balance, transferred, 
     SELECT journal, 'loaded', card, 2999, 'outside', 0, 0, 0, 0 FROM journals, generate_series(1, 1000) AS card;
 INSERT INTO gates (journal, stage, gate, moment, times_back)
     SELECT journal, 'loaded', gate, now(), gate % 2 FROM journals, generate_series(1, 8) AS gate;
+INSERT INTO fare_stations SELECT digest, number, 'Station ' || number, '1' FROM fare_tables, generate_series(1, 5) AS number;
+INSERT INTO journeys (journal, settled, place, kind, card, day, began, ended, origin, destination, legs, band, fare, charged)
+    SELECT journal, place, place, 'journey', card, day, moment, moment, station_number, 1, 1, 'peak', 350, 350
+    FROM touches WHERE act = 'in';
+INSERT INTO last_journeys (journal, stage, place, kind, card, day, began, origin, legs, band, charged)
+    SELECT journal, 'loaded', 2999, 'inside', card, DATE '2025-02-28', now(), 1, 0, 'peak', 900
+    FROM journals, generate_series(1, 1000) AS card;
 ANALYZE;
 """
 
@@ -274,6 +308,8 @@ ANALYZE;
 PLANNED = {"card": 1234, "first": "2025-02-27", "last": "2025-02-27", "day_before": "2025-02-28T00:00:00Z"}
 # The queries that read the touches of some fare days in one pass, and no other touches.
 ONE_PASS = ("journeys", "refusals", "clocks")
+# The queries that read the journeys of some fare days, and no others.
+OF_TRAVEL = ("fares", "origins", "destinations", "caps")
 
 
 class SqlitePlans(OnSqlite, unittest.TestCase):
@@ -292,6 +328,9 @@ class SqlitePlans(OnSqlite, unittest.TestCase):
                     if name in ONE_PASS:
                         self.assertEqual(re.findall(r"\btouches USING .*?(?=;)", plan),
                                          ["touches USING INDEX touches_day (day>? AND day<?)"])
+                    if name in OF_TRAVEL:
+                        self.assertEqual({*re.findall(r"\b(?:SCAN|SEARCH) journeys.*?(?=;)", plan)},
+                                         {"SEARCH journeys USING INDEX journeys_day (day>? AND day<?)"})
 
 
 class Plans(OnPostgres, DatabaseTest):
@@ -330,6 +369,13 @@ class Plans(OnPostgres, DatabaseTest):
             plan = self.asked(self.base, f"EXPLAIN {query.text}", **{wanted: PLANNED[wanted] for wanted in query.wanted})
             with self.subTest(name):
                 self.assertEqual(re.findall(r" on (touches\w+)", str(plan)).count("touches_2025_02"), 1, plan)
+
+    def test_a_sum_over_journeys_reads_the_partition_of_its_month_alone(self):
+        for name in OF_TRAVEL:
+            query = queries.known()[name]
+            plan = self.asked(self.base, f"EXPLAIN {query.text}", **{wanted: PLANNED[wanted] for wanted in query.wanted})
+            with self.subTest(name):
+                self.assertEqual({*re.findall(r" on (journeys_\d\w+)", str(plan))}, {"journeys_2025_02"}, plan)
 
     def test_there_is_no_index_but_keys_and_those_that_queries_name(self):
         named = {index for query in queries.known().values() for index in query.indexes}

@@ -13,15 +13,18 @@ from network_base import (NETWORK, TIME, DatabaseTest, OnPostgres, OnSqlite, cal
 # The files that make the tables of each earlier version.
 HERE = pathlib.Path(__file__).parent
 MADE = {1: [HERE / "network_schema_1.sql"], 2: [HERE / "network_schema_2.sql"],
-        3: [HERE / "network_schema_2.sql", NETWORK / "migrations" / "3.sql"]}
+        3: [HERE / "network_schema_2.sql", NETWORK / "migrations" / "3.sql"],
+        4: [HERE / "network_schema_2.sql", NETWORK / "migrations" / "3.sql", NETWORK / "migrations" / "4.sql",
+            HERE / "network_views_4.sql"]}
 # The columns of these tables, which today's tables have as well.
 COLUMNS = {
     1: {"stations": "*", "servers": "*", "fare_tables": "*",
         "journals": "journal, server, name, version, capacity, cards, digest, touches, seal, closed, loaded",
         "revisions": "*", "touches": "*"},
-    2: {"stations": "*", "servers": "*", "fare_tables": "*", "journals": "*", "revisions": "*", "touches": "*",
+    2: {"stations": "*", "servers": "*", "fare_tables": "*", "journals": "journal, server, name, version, capacity, cards, "
+        "digest, touches, seal, closed, loaded, transfer_gate, checked, base", "revisions": "*", "touches": "*",
         "balances": "*", "detached_months": "*"}}
-COLUMNS[3] = {**COLUMNS[2], "gates": "*"}
+COLUMNS[3] = COLUMNS[4] = {**COLUMNS[2], "gates": "*"}
 # Servers whose journals are loaded: the second one has a gate whose clock is put back.
 LOADED = ("alder-1", town.WRONG)
 
@@ -71,12 +74,12 @@ class Migrations:
         old = self.earlier(version, f"old{version}", new)
         done = load("alder-1", "end", old)
         self.assertEqual((done.returncode, done.stdout), (1, ""))
-        self.assertIn(f"the database is of version {version}, and these programs need 4; migrate it: network/migrate",
+        self.assertIn(f"the database is of version {version}, and these programs need 5; migrate it: network/migrate",
                       done.stderr)
         done = call("query", "holdings", "--database", old)
         self.assertEqual((done.returncode, done.stdout), (1, ""))
         self.assertEqual([call("migrate", "--database", old).stdout for _ in range(2)],
-                         [f"version {version} -> 4\n", "version 4\n"])
+                         [f"version {version} -> 5\n", "version 5\n"])
         self.assertIn((town.GATE, True), self.asked(old, "SELECT DISTINCT gate, times_back > 0 FROM gates"))
         self.assertEqual(everything(old), everything(new))
         self.assertEqual(self.catalogue(old), self.catalogue(new))
@@ -106,12 +109,12 @@ class Migrations:
         self.assertEqual(load("alder-1", "friday", base).returncode, 0)
         with contextlib.closing(database.connect(base)) as opened:
             opened.begin()
-            opened.execute("UPDATE schema_version SET version = 5")
+            opened.execute("UPDATE schema_version SET version = 6")
             opened.commit()
         for name, *words in (["query", "holdings"], ["migrate"], ["check"]):
             done = call(name, *words, "--database", base)
             self.assertEqual((done.returncode, done.stdout), (1, ""))
-            self.assertIn("the database is of version 5, and these programs know 4; use newer ones", done.stderr)
+            self.assertIn("the database is of version 6, and these programs know 5; use newer ones", done.stderr)
 
 
 class SqliteMigrations(Migrations, OnSqlite, DatabaseTest):
@@ -146,7 +149,7 @@ class PostgresMigrations(Migrations, OnPostgres, DatabaseTest):
             opened.commit()
         self.assertEqual([load(LOADED[0], part, base).returncode for part in ("friday", "end")], [0, 0])
         self.assertEqual(call("check", "--database", base).returncode, 0)
-        self.assertEqual(call("migrate", "--database", base).stdout, "version 4\n")
+        self.assertEqual(call("migrate", "--database", base).stdout, "version 5\n")
         self.assertEqual(self.asked(base, "SELECT count(*) FROM pg_class WHERE relnamespace = 'public'::regnamespace"), [(2,)])
         alone = self.fresh("alone")
         self.assertEqual(load(LOADED[0], "friday", alone).returncode, 0)
@@ -160,7 +163,7 @@ class PostgresMigrations(Migrations, OnPostgres, DatabaseTest):
             base.commit()
         old = self.earlier(3, "of_berta", new, "berta")
         done = call("migrate", "--database", old)
-        self.assertEqual((done.stdout, done.stderr), ("version 3 -> 4\n", ""))
+        self.assertEqual((done.stdout, done.stderr), ("version 3 -> 5\n", ""))
         self.assertEqual([load(LOADED[0], "end", old).returncode, call("check", "--database", old).returncode], [0, 0])
 
     def test_a_database_with_a_detached_month_is_migrated(self):
@@ -171,14 +174,18 @@ class PostgresMigrations(Migrations, OnPostgres, DatabaseTest):
         with contextlib.closing(database.connect(old)) as base:
             base.execute("ALTER TABLE touches DETACH PARTITION touches_2025_01")
             base.commit()
-        self.assertEqual(call("migrate", "--database", old).stdout, "version 2 -> 4\n")
+        self.assertEqual(call("migrate", "--database", old).stdout, "version 2 -> 5\n")
         self.assertEqual(self.schemas(old), ["bovtrila"])
-        answers = []
+        answers, travels = [], []
         for base in (old, new):
             self.assertEqual([load(name, "end", base).returncode for name in LOADED], [0, 0])
             self.assertEqual([call("check", *more, "--database", base).returncode for more in ((), ("--all",))], [0, 0])
+            travels.append(set(self.asked(base, "SELECT server, place, kind, day, legs, fare, charged FROM travel")))
             answers.append(call("query", "clocks", "--from", town.FRIDAY, "--to", town.SATURDAY, "--database", base).stdout)
         self.assertEqual(answers[0], answers[1])
+        # Journeys that began in the detached month are missing, and no others.
+        self.assertLess(travels[0], travels[1])
+        self.assertEqual({row[3][:7] for row in travels[1] - travels[0]}, {"2025-01"})
         self.assertIn(f",{town.WRONG},{town.GATE},", answers[0])
 
     def catalogue(self, base):
@@ -215,7 +222,11 @@ class Owners(OnPostgres, DatabaseTest):
         self.assertEqual((done.stdout, done.stderr), ("t\n", ""))
         self.assertEqual(self.psql(reader, "-At", "-c", "SHOW search_path").stdout, '"$user", public, bovtrila\n')
         self.assertIn("permission denied", load("birch-1", "end", reader).stderr)
+        done = self.psql(reader, "-At", "-c", "SELECT count(*) > 0 FROM travel JOIN fare_stations ON digest = last_table")
+        self.assertEqual((done.stdout, done.stderr), ("t\n", ""))
         for role, text in ((loader, "UPDATE touches SET balance = 0"), (loader, "DELETE FROM touches"),
+                           (loader, "UPDATE journeys SET charged = 0"), (loader, "DELETE FROM journeys"),
+                           (reader, "DELETE FROM last_journeys"),
                            (loader, "DROP TABLE balances"), (reader, "UPDATE journals SET closed = true"),
                            (reader, "SELECT make_month('2030-01-01')"), (reader, "INSERT INTO stations VALUES ('x')")):
             with self.subTest(text):
@@ -244,13 +255,14 @@ class Owners(OnPostgres, DatabaseTest):
             self.assertEqual(load(name, "friday", base).returncode, 0)
         held = call("query", "holdings", "--database", base).stdout
         words = ["--before", "2025-02", "--database", base]
-        self.assertEqual(call("detach", *words, "--dry-run").stdout, "touches_2025_01: would be detached\n")
+        self.assertEqual(call("detach", *words, "--dry-run").stdout,
+                         "journeys_2025_01: would be detached\ntouches_2025_01: would be detached\n")
         # A changed row stops it.
         for change, status in ((1, 3), (-1, 0)):
             self.psql(base, "-c", f"UPDATE bovtrila.touches SET balance = balance + {change} WHERE place = 60")
             done = call("detach", *words)
             self.assertEqual(done.returncode, status, done.stdout + done.stderr)
-        self.assertEqual(done.stdout, "touches_2025_01: detached\n")
+        self.assertEqual(done.stdout, "journeys_2025_01: detached\ntouches_2025_01: detached\n")
         self.assertEqual(call("query", "holdings", "--database", base).stdout, held)
         # Later touches are loaded, checked and compared as before.
         for name in ("alder-1", "birch-1"):
