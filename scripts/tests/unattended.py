@@ -1,10 +1,13 @@
 """Runs of scripts/next-journal that nobody attends: for scripts/tests/full-journals."""
+import importlib.machinery
+import importlib.util
 import resource
 import shutil
 import signal
 import subprocess
 import time
 import unittest
+from unittest import mock
 
 import due
 import handover
@@ -168,6 +171,71 @@ class Unattended(Stations):
         self.assertEqual(running.returncode, 1)
         self.assertIn("for 1 s there were never 30 s without a touch: choose another hour. Nothing was changed", err)
         self.assertTrue(serving.has_server(station.old))
+
+    def test_the_server_is_stopped_after_a_time_without_a_touch(self):
+        station, watch, limit = self.station(capacity=20), 3, time.monotonic() + RUN
+        station.start()
+        stopped = station.folder.parent / "stopped-at"
+        stop = station.words[station.words.index("--stop") + 1]
+        words = ["--when-above", "90", *station.words[1:], "--watch", watch, "--stop", f"date +%s.%N >{stopped}; {stop}"]
+        with subprocess.Popen([str(word) for word in (SCRIPT, *words)], stdout=subprocess.DEVNULL,
+                              stderr=subprocess.PIPE, text=True) as running:
+            # What is calculated while the server runs is there last.
+            while not (station.folder / "after-station.journal" / "left").exists():
+                self.assertIsNone(running.poll())
+                self.assertLess(time.monotonic(), limit)
+            time.sleep(watch / 2)
+            sent = time.time()
+            touch = model.touch(model.TOP_UP, 7, 900, 5, 300, MORNING + 900)
+            self.assertEqual(wire.in_words(touch, station.ask(touch)), "topped up; change 300, balance 300")
+            self.assertEqual((running.communicate(timeout=RUN)[1], running.returncode), ("", 0))
+        # The touch began the time anew.
+        self.assertGreaterEqual(float(stopped.read_text()) - sent, watch)
+        self.assertEqual(wire.in_words(model.enquiry(5), station.ask(model.enquiry(5))),
+                         "card 5 outside; balance 300, after 10 touches")
+
+    def test_the_time_is_a_minute_if_nobody_attends(self):
+        loader = importlib.machinery.SourceFileLoader("next_journal", str(SCRIPT))
+        script = importlib.util.module_from_spec(importlib.util.spec_from_loader("next_journal", loader))
+        loader.exec_module(script)
+        for words, seconds in ((["--when-above", "90%"], 60), (["station.journal", "--settled"], 5),
+                               (["--when-above", "90%", "--watch", "7"], 7)):
+            with self.subTest(words), mock.patch("sys.argv", ["next-journal", *words]):
+                self.assertEqual(script.options().watch, seconds)
+
+    def test_a_touch_that_comes_while_balances_are_calculated_is_carried(self):
+        station = self.station(capacity=20)
+        station.start()
+        lines, seen, program = (station.folder.parent / name for name in ("lines", "seen", "program"))
+        lines.write_text(model.touch(model.TOP_UP, 7, 900, 5, 300, MORNING + 900).hex() + "\n")
+        program.write_text(f'#!/bin/sh\ncase "$*" in\nbalances*lib/station.journal*) {PROGRAM} "$@" || exit\n'
+                           f"test -e {seen} || {SCRIPT.with_name('gate')} {station.listen} {lines} >{seen} ;;\n"
+                           f'*) exec {PROGRAM} "$@" ;;\nesac\n')
+        program.chmod(0o755)
+        status, _, err = station.alone("--program", program)
+        self.assertEqual((status, err, "topped up" in seen.read_text()), (0, "", True))
+        self.assertEqual(wire.in_words(model.enquiry(5), station.ask(model.enquiry(5))),
+                         "card 5 outside; balance 300, after 10 touches")
+
+    def test_a_disk_without_room_is_found_before_the_server_is_stopped(self):
+        """The new journal has a header of 64 bytes, 5000 slots of 64, and a byte; the old one has 18 slots."""
+        station, needed = self.station(), 320_065 + 1_217
+        station.start()
+        process = station.pid.read_text()
+        status, _, err = station.alone(env=self.free(needed - 1))
+        self.assert_back(station, status, err, f"{station.folder}: {needed - 1} bytes are free, and the new journal and a copy "
+                                               f"of the old one need {needed}: make room. Nothing was changed\n")
+        self.assertEqual(station.pid.read_text(), process)
+        self.assertEqual(station.alone(env=self.free(needed))[::2], (0, ""))
+        self.assert_carried(station, 9)
+
+    def free(self, count):
+        """The environment in which Python finds so many free bytes on each disk, and more for root alone."""
+        folder = self.room / f"free-{count}"
+        folder.mkdir()
+        (folder / "sitecustomize.py").write_text(
+            f"import os\nos.statvfs = lambda _: os.statvfs_result((4096, 1, 10**12, 10**12, {count}, 0, 0, 0, 0, 255))\n")
+        return {"PYTHONPATH": str(folder)}
 
     def test_a_server_that_could_not_be_started_again_is_started_by_the_next_run(self):
         station = self.station()
