@@ -609,15 +609,17 @@ class Shared(GateTest):
             self.assertEqual(asker.opened[0], CAUSE["OK"])
             done = subprocess.run(words, input="", capture_output=True, text=True, timeout=TIME)
             self.assertEqual((done.returncode, done.stdout), (1, ""))
-        # It waits for a line of standard input, with the file open.
-        sender = subprocess.Popen(words, stdin=subprocess.PIPE, stdout=subprocess.PIPE, stderr=subprocess.PIPE)
+        # It has answered its first touch, so it has the file open, and waits for the next line of standard input.
+        words[-1] = self.planted().text
+        sender = subprocess.Popen(words, stdin=subprocess.PIPE, stdout=subprocess.PIPE, stderr=subprocess.PIPE, text=True)
         self.addCleanup(sender.communicate)
         self.addCleanup(sender.kill)
-
-        def is_held():
-            with self.open("127.0.0.1:1") as asker:
-                return asker.opened[0] == CAUSE["IN_USE"]
-        self.assertTrue(clients.wait_for(is_held))
+        sender.stdin.write("at 1736149800 issue 1\n")
+        sender.stdin.flush()
+        answer = wire.vectors()[0].model().answer(FIRST[0])
+        self.assertEqual(sender.stdout.readline(), self.line_of(FIRST[0], answer) + "\n")
+        with self.open("127.0.0.1:1") as asker:
+            self.assertEqual(asker.opened[0], CAUSE["IN_USE"])
 
 
 class Refused(GateTest):
