@@ -1,0 +1,4 @@
+pub mod EntryLemmas
+pub mod LogLemmas
+pub mod OfficeLemmas
+mod Examples

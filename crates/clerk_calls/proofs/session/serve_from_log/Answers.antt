@@ -1,0 +1,20 @@
+use Rattle.office_lines.specs.Clerk.{clerk_at}
+use Rattle.clerk_calls.proofs.OfficeLemmas.{office-session}
+use Rattle.clerk_calls.proofs.session.serve_from_log.Goals as goal
+
+-- what `serve` promises of the session, and the run that it is
+pub returns-clause-session : goal.returns-clause-session
+returns-clause-session g c =
+    let run = c.serve.ensures.session in
+    record {
+      bytes = run.bytes;
+      text = run.text;
+      consumed = run.consumed;
+      appended = run.appended;
+      says = (
+        run.says,
+        office-session c.args.clerk.now c.serve.new.clerk c.args.turns c.serve.result run.bytes run.text run.says
+            (λ k. clerk_at k.seat.now k.desk.now) g.N.Named.opened
+            (λ before after request answer given. (given.2, given.3)),
+      );
+    }
