@@ -32,7 +32,7 @@ def displayed(top: pathlib.Path) -> dict[str, dict[str, Printed]]:
     """What each variant of each enum prints."""
     found: dict[str, dict[str, Printed]] = {}
     types: dict[str, dict[str, list[str]]] = {}
-    for file in sorted(top.glob("crates/*/src/*.rt")):
+    for file in sorted({*top.glob("crates/*/src/*.rt"), *top.glob("crates/*/src/*/fault.rt")}):
         text = file.read_text()
         for name, body in ENUM.findall(text):
             types[name] = {one["name"]: (one["types"] or "").split(", ") for one in VARIANT.finditer(body)}

@@ -24,7 +24,7 @@ FAULTS = {(TABLE, "faults"): ("bovtrila", ("table",)),
           (LINES, "faults of a migration"): ("bovtrila", ("migrate",)),
           (LINES, "faults of an audit"): ("bovtrila", ("header", "seal", "gate", "card", "place", "balance")),
           (LINES, "faults of a run"): ("bovtrila", ("listen", "close", "run")),
-          (LINES, "faults of a gate"): ("gate_send", ("file", "gate-file", "line", "clock", "ask", "answer", "tries"))}
+          (LINES, "faults of a gate"): ("gate_send", ("file", "gate-file", "line", "clock", "ask", "answer", "tries", "enquiry"))}
 # Lines of gate_send that the other program prints too, for the same reason.
 SHARED = ("run",)
 

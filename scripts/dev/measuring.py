@@ -1,6 +1,6 @@
 """Shared by the measuring scripts: their options, runs in turn, figures, and tables. They have no pass or fail.
 
-A table follows a line with its name, both in a script's output and in docs/PERFORMANCE.md, into which
+A table follows a line with its name, both in a script's output and in docs/MEASUREMENTS.md, into which
 scripts/dev/measure-all copies the output."""
 import argparse
 import re
@@ -74,8 +74,13 @@ def compared(ones, others, name, form=",.0f"):
     return middle(ones, name, form), middle(others, name, form), ratio(column(ones, name), column(others, name))
 
 
+def line(cells):
+    """A line of a table with these cells."""
+    return "| " + " | ".join(str(cell) for cell in cells) + " |"
+
+
 def row(*cells):
-    print("| " + " | ".join(str(cell) for cell in cells) + " |", flush=True)
+    print(line(cells), flush=True)
 
 
 def table(name, *heads):
@@ -100,3 +105,13 @@ def tables(text):
         elif line or name and found[name]:
             name = None
     return found
+
+
+def put(page, new):
+    """A page with these tables in place of those that it had, each after the line with its name."""
+    for name, lines in new.items():
+        place = re.compile(rf"^({re.escape(NAME.format(name))}\n)(\n(\|.*\n)+)?", re.M)
+        page, count = place.subn(lambda found: found[1] + "\n" + "".join(f"{line}\n" for line in lines), page)
+        if count == 0:
+            print(f"measure-all: the page has no place for the table '{name}'", file=sys.stderr)
+    return page

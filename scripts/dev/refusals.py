@@ -14,8 +14,8 @@ A wrong body is a file crates/NAME/must-fail/EDIT.edit or crates/NAME/wrong-bodi
 Each has the last of these lines. FUNCTION is a function as docs/proofs/ names it, LABEL the label of one of its clauses, or
 `ensures` for a clause without one. A function in an impl of a trait may name a clause of the trait's function, and a
 `ghost` member of the impl, as `From::from_gives`. The precondition of a call, the invariant of a type, and the invariant or
-measure of a loop are named by their goals: `Desk::learn.invariant_of-self`, `stream_length.frames-preserved`,
-`stream_length.frames-smaller`. `Examples.NAME` is the example of that name in proofs/Examples.antt. `rt` reads only the
+measure of a loop are named by their goals: `Desk::learn.invariant_of-self`, `spans_of.spans-preserved`,
+`write_whole.loop-at-preserved`. `Examples.NAME` is the example of that name in proofs/Examples.antt. `rt` reads only the
 first three lines.
 """
 import dataclasses

@@ -9,12 +9,12 @@ from sending import (ANSWERED, FRAMES, MORNING, Scripted, SendTest, address_of, 
 
 
 class Lines(SendTest):
-    """Lines of the input that ask for no touch."""
+    """Lines of the input that ask for nothing."""
 
     BAD = ["", "issue", "issue ", "issue x", "issue 3 ", " issue 3", "issue  3", "issue +3", "issue -3", "issue 4294967296",
            "Issue 3", "in 3", "in 3 ", "in 3 65536", "in 3 +1", "in 3 1 2", "out 3", "top-up 3", "top-up 3 4294967296",
            "top-up 3 1.5", "at 5", "at x issue 3", "at 4294967296 issue 3", "at -1 issue 3", "at 5 at 6 issue 3",
-           "enquire 3", "issue 3\r\r", "issue 0x3", "in\t3 17", "revision 3"]
+           "enquire", "enquire x", "enquire 3 4", "at 5 enquire 3", "issue 3\r\r", "issue 0x3", "in\t3 17", "revision 3"]
 
     def test_a_bad_line_is_told_and_nothing_is_asked_for_it(self):
         station = address_of(self.station())

@@ -1,4 +1,5 @@
-//! The tests of command_line and table_commands, in a crate of their own: a module for each.
+//! The tests of command_line, console, table_check and the command of line_replay, in a crate of
+//! their own: a module for each.
 #![tactic(auto)]
 
 #[cfg(test)]

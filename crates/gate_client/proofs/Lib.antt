@@ -3,3 +3,6 @@ pub mod NumberLemmas
 pub mod ClientLemmas
 pub mod CauseLemmas
 pub mod FrameLemmas
+mod LineExamples
+pub mod AskingLemmas
+pub mod SettlingLemmas

@@ -3,3 +3,8 @@ pub mod Causes
 pub mod Client
 pub mod Heard
 pub mod Texts
+pub mod Asking
+pub mod Exchange
+pub mod Told
+pub mod SettleTexts
+pub mod Enquiring

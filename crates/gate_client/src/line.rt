@@ -11,13 +11,11 @@ ghost use Rattle.gate_client.specs.Heard.{frame_of, IsSent, IsUnder};
 
 use crate::{HearFault, LineFault};
 use byteorder::{BigEndian, ByteOrder};
-use gate_session::{ANSWER_SIZE, Answer, REQUEST_SIZE};
+use gate_session::{ANSWER_SIZE, Answer, LENGTH_SIZE, REQUEST_SIZE};
 use oyster_account::{Reply, TOUCH_SIZE, Touch, read_i32, read_u16, read_u32};
 use std::io::{Read, Write};
 use text_io::write_whole;
 
-/// The bytes that a frame's length takes.
-const LENGTH_SIZE: usize = REQUEST_SIZE - TOUCH_SIZE;
 /// The most bytes of an answer behind its length.
 const BODY_SIZE: usize = ANSWER_SIZE - LENGTH_SIZE;
 
@@ -67,7 +65,7 @@ pub(crate) fn read_answer<R: Read>(reader: &mut R) -> Result<Answer, HearFault>
 
 /// Reads a length and as many bytes behind it to the front of `frame`, and answers how many bytes
 /// these are together. `None` where a read failed or the input ended, or no answer is so long.
-fn read_frame<R: Read>(reader: &mut R, frame: &mut [u8; ANSWER_SIZE]) -> Option<usize>
+pub(crate) fn read_frame<R: Read>(reader: &mut R, frame: &mut [u8; ANSWER_SIZE]) -> Option<usize>
     ensures within { IfSome result (λ size. size ≤ ANSWER_SIZE) }
     ensures read { IfSome result (λ size. Consumes (R.remaining reader.old)
         (R.remaining reader.new) (take size frame.new)) }
@@ -98,7 +96,13 @@ fn answer_in(frame: &[u8]) -> Option<Answer>
     } else {
         fault_in(frame)?
     };
-    // What was read is compared with the whole frame of what it was read as.
+    whole(frame, answer)
+}
+
+/// This answer, where these bytes are its whole frame.
+pub(crate) fn whole(frame: &[u8], answer: Answer) -> Option<Answer>
+    ensures { IfSome result (λ given. (given ≡ answer) × (frame.now ≡ answer_frame given)) }
+{
     let mut written = [0; ANSWER_SIZE];
     let size = answer.write_into(&mut written);
     if frame == &written[..size] {
@@ -129,7 +133,7 @@ fn reply_in(frame: &[u8]) -> Option<Answer> {
 }
 
 /// The fault whose fields stand behind a length and a kind.
-fn fault_in(frame: &[u8]) -> Option<Answer> {
+pub(crate) fn fault_in(frame: &[u8]) -> Option<Answer> {
     let (_length, rest) = read_u16(frame)?;
     let (_kind, rest) = rest.split_first()?;
     let (code, rest) = rest.split_first()?;

@@ -19,3 +19,10 @@ mod WholeExamples
 mod WholeCrashExamples
 mod WholeWeakerLemmas
 mod WholeFaultLemmas
+pub mod GateLemmas
+pub mod StationLemmas
+pub mod SessionLemmas
+pub mod SettledLemmas
+pub mod StartLemmas
+pub mod ClientLemmas
+pub mod ClientRunLemmas

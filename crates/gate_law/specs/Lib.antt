@@ -9,3 +9,11 @@ pub mod WholeSteps
 pub mod WholeAgreement
 pub mod WholeWeaker
 pub mod Machine
+pub mod Gate
+pub mod Calls
+pub mod Station
+pub mod BookClerk
+pub mod Sessions
+pub mod Settled
+pub mod Shown
+pub mod ClientRuns

@@ -3,7 +3,7 @@ use Rattle.std.proofs.Common.{◌≡◌, refl, Some, None, codes}
 use Rattle.std.specs.Fmt.{digits}
 use Rattle.gate_client.specs.declared.fault.FileFault.TheVariants as files
 use Rattle.gate_client.specs.declared.fault.AskFault.TheVariants as asks
-use Rattle.gate_sending.specs.declared.settling.SettleFault.TheVariants as settles
+use Rattle.gate_client.specs.declared.settling.SettleFault.TheVariants as settles
 use Rattle.gate_send.specs.declared.fault.SendFault.TheVariants as sends
 use Rattle.gate_send.specs.Told.{told_fault}
 
@@ -13,5 +13,6 @@ each_part_is_told : (told_fault (sends.GateFile files.AnotherFile None) ≡ Some
     × (told_fault (sends.Settle settles.Conflict None) ≡ Some (codes "fault answer 2 Conflict"))
     × (told_fault (sends.Settle (settles.Tries 10) None) ≡ Some (codes "fault tries 10"))
     × (told_fault (sends.BadLine 3 None) ≡ Some (codes "fault line 3"))
+    × (told_fault (sends.Enquire 10 None) ≡ Some (codes "fault enquiry tries 10"))
 unfolding digits
-each_part_is_told = (refl, refl, refl, refl, refl)
+each_part_is_told = (refl, refl, refl, refl, refl, refl)

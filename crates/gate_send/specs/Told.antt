@@ -3,11 +3,11 @@
 use Rattle.std.specs.Prelude.{ℕ, List, ◌++◌, Option, Some, None, codes}
 use Rattle.std.specs.Fmt.{decimal}
 use Rattle.gate_client.specs.Texts.{printed_file_fault, printed_ask_fault}
-use Rattle.gate_sending.specs.Texts.{printed_settle_fault}
+use Rattle.gate_client.specs.SettleTexts.{printed_settle_fault}
 use Rattle.gate_send.specs.declared.fault.SendFault.{SendFault}
 use Rattle.gate_send.specs.declared.fault.SendFault.TheVariants.{Line, Memory, Read, Write, File}
 use Rattle.gate_send.specs.declared.fault.SendFault.TheVariants.{GateFile, BadLine, Clock, Ask}
-use Rattle.gate_send.specs.declared.fault.SendFault.TheVariants.{Settle}
+use Rattle.gate_send.specs.declared.fault.SendFault.TheVariants.{Settle, Enquire}
 
 -- the line of a fault: the name of its part, and what that part prints of it; what is said of a
 -- command line is `clap`'s, which doesn't state it
@@ -22,3 +22,4 @@ told_fault (BadLine number _) = Some (codes "fault line " ++ decimal number)
 told_fault Clock = Some (codes "fault clock")
 told_fault (Ask fault _) = Some (codes "fault ask " ++ printed_ask_fault fault)
 told_fault (Settle fault _) = Some (codes "fault " ++ printed_settle_fault fault)
+told_fault (Enquire tries _) = Some (codes "fault enquiry tries " ++ decimal tries)

@@ -26,7 +26,9 @@ const EXAMPLE: &str = "Each line of standard input asks for a touch: issue CARD,
 out CARD STATION or top-up CARD PENCE, and in front of it at SECONDS, where its moment isn't the
 clock's. Each reply is a line of standard output: gate, number, card, act, station, pence, verdict,
 change and balance. A run begins with the last touch of the file, whose reply is the first line.
-A line that asks for no touch is reported on standard error, and the next one is read.
+A line enquire CARD asks for a balance: the answer has no number, station, pence or change, and as
+its verdict vacant (no card), outside or inside. Enquiries aren't stored in the file.
+A line that asks for neither is reported on standard error, and the next one is read.
 
 Example, gate 7 makes its file if there is none, and a card is issued and topped up:
   printf 'issue 3\\ntop-up 3 1000\\n' |
@@ -35,8 +37,12 @@ Example, gate 7 makes its file if there is none, and a card is issued and topped
 Example, what waits from before, by two stations of one journal:
   gate_send --gate 7 --file gate7.touches --resend 192.168.1.10:7040 192.168.1.11:7040
 
-Statuses: 0 each line is answered, 1 a fault or a line that asks for no touch (reported on standard
+Statuses: 0 each line is answered, 1 a fault or a line that asks for nothing (reported on standard
 error; a touch that was kept waits in the file), 2 a wrong command line";
+
+/// What is said of the option `tries`.
+const TRIES_HELP: &str = "Ends after so many tries of a request, from 1 to 1000000;
+without it none is given up";
 
 /// What is said of the option `timeout`.
 const TIMEOUT_HELP: &str = "How long a connection or an answer is waited for, from 1 to 3600000;
@@ -55,7 +61,7 @@ taken after a fault";
 pub(crate) const CAPACITY_LIMIT: u32 = 1_000_000;
 /// The highest number of a gate.
 const GATE_LIMIT: u32 = 65_535;
-/// The most tries of a touch that can be asked for.
+/// The most tries of a request that can be asked for.
 const TRIES_LIMIT: u32 = 1_000_000;
 /// The most milliseconds that an answer can be waited for.
 const TIMEOUT_LIMIT: u32 = 3_600_000;
@@ -228,9 +234,9 @@ fn with_tries<'a>(alloc: Global, command: Command<'a>) -> Result<Command<'a>, Al
         "Sends what waits from before alone, and reads no line",
     ))?;
     let command = command.arg(
-        number(alloc, "tries", 1, TRIES_LIMIT).value_name("N").help(
-            "Ends after so many tries of a touch, from 1 to 1000000;\nwithout it none is given up",
-        ),
+        number(alloc, "tries", 1, TRIES_LIMIT)
+            .value_name("N")
+            .help(TRIES_HELP),
     )?;
     let command = command.arg(
         number(alloc, "timeout", 1, TIMEOUT_LIMIT)

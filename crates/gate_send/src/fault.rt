@@ -7,8 +7,7 @@ ghost use Rattle.gate_send.specs.Told.{told_fault};
 
 use clap::Error as LineError;
 use clap::error::ErrorKind;
-use gate_client::{AskFault, FileFault};
-use gate_sending::SettleFault;
+use gate_client::{AskFault, FileFault, SettleFault};
 use std::alloc::AllocError;
 use std::process::ExitCode;
 use std::{fmt, io};
@@ -31,7 +30,7 @@ pub(crate) enum SendFault {
     File(Detail),
     /// The gate's file can't be made or opened.
     GateFile(FileFault, Detail),
-    /// The line of this number, from 1, asks for no touch.
+    /// The line of this number, from 1, asks for nothing.
     BadLine(u64, Detail),
     /// The clock can't be read, or is behind 1970 or ahead of 2106.
     Clock,
@@ -39,6 +38,8 @@ pub(crate) enum SendFault {
     Ask(AskFault, Detail),
     /// A touch that was kept isn't settled, and waits on.
     Settle(SettleFault, Detail),
+    /// So many tries of an enquiry brought no answer.
+    Enquire(u32, Detail),
 }
 
 /// Prints the line that standard error gets of the fault, without its line feed.
@@ -57,6 +58,7 @@ impl fmt::Display for SendFault {
             SendFault::Clock => f.write_str("fault clock"),
             SendFault::Ask(fault, _) => write!(f, "fault ask {fault}"),
             SendFault::Settle(fault, _) => write!(f, "fault {fault}"),
+            SendFault::Enquire(tries, _) => write!(f, "fault enquiry tries {tries}"),
         }
     }
 }
@@ -70,6 +72,7 @@ impl SendFault {
             SendFault::BadLine(_, detail) => detail.as_deref(),
             SendFault::Ask(_, detail) => detail.as_deref(),
             SendFault::Settle(_, detail) => detail.as_deref(),
+            SendFault::Enquire(_, detail) => detail.as_deref(),
             _ => None,
         }
     }
@@ -83,7 +86,7 @@ impl SendFault {
         Ok(())
     }
 
-    /// Whether a line of the input asks for no touch: the next one may be read.
+    /// Whether a line of the input asks for nothing: the next one may be read.
     pub(crate) fn is_bad_line(&self) -> bool {
         matches!(self, SendFault::BadLine(..))
     }

@@ -7,7 +7,7 @@ use std::alloc::Global;
 use std::fs::{self, File, OpenOptions, TryLockError};
 use std::io;
 use std::rt::Files;
-use tap_disk::{Disk, FileDisk};
+use tap_disk::{Disk, FileDisk, SystemError};
 use tap_journal::{HEADER_SIZE, MARK_CLOSED, NAME};
 
 /// What a making writes that is cut off before its end: the header, and a mark behind it.
@@ -24,7 +24,7 @@ pub(crate) fn gate_file<R: AllocGlobal + Files<File = File>>(
     if !asked.is_new {
         return match Client::open(rt.alloc(), disk, asked.gate) {
             Ok(client) => Ok(client),
-            Err(fault) => Err(file_fault(rt, asked, fault.cause)),
+            Err(ClientFault { disk, cause }) => Err(file_fault(rt, asked, cause, &disk)),
         };
     }
     match Client::create(disk, asked.gate, asked.capacity) {
@@ -49,7 +49,7 @@ fn there<R: AllocGlobal + Files<File = File>>(
         Ok(client) => return Ok(client),
         Err(ClientFault { disk, cause }) => (disk, cause),
     };
-    let fault = file_fault(rt, asked, cause);
+    let fault = file_fault(rt, asked, cause, &disk);
     if cause != FileFault::NoFile || !is_unfinished(&mut disk) {
         return Err(fault);
     }
@@ -85,7 +85,7 @@ fn unmade<R: AllocGlobal + Files<File = File>>(
     disk: FileDisk,
     cause: FileFault,
 ) -> SendFault {
-    let told = file_fault(rt, asked, cause);
+    let told = file_fault(rt, asked, cause, &disk);
     if cause != FileFault::NotEmpty {
         let _ = fs::remove_file(rt, asked.file);
     }
@@ -93,9 +93,18 @@ fn unmade<R: AllocGlobal + Files<File = File>>(
     told
 }
 
-/// The fault of a gate's file that isn't made or opened.
-fn file_fault<R: AllocGlobal>(rt: &R, asked: &Arguments<'_>, cause: FileFault) -> SendFault {
-    SendFault::GateFile(cause, cause_detail(rt.alloc(), asked.file, cause))
+/// The fault of a gate's file that isn't made or opened on this disk.
+fn file_fault<R: AllocGlobal>(
+    rt: &R,
+    asked: &Arguments<'_>,
+    cause: FileFault,
+    disk: &FileDisk,
+) -> SendFault {
+    let detail = match cause {
+        FileFault::Device => system_said(rt.alloc(), asked.file, disk.error()),
+        _ => file_named(rt.alloc(), asked.file),
+    };
+    SendFault::GateFile(cause, detail)
 }
 
 /// The file of the system. One that isn't there is made with `--new` alone.
@@ -151,18 +160,17 @@ fn is_file(file: &File) -> bool {
     }
 }
 
-/// What stands behind the line of a gate's file that isn't made or opened.
-fn cause_detail(alloc: Global, path: &str, cause: FileFault) -> Detail {
-    match cause {
-        FileFault::Device => system_said(alloc, path),
-        _ => format!(in alloc; "  {path}").ok(),
-    }
+/// The line that names a file alone.
+pub(crate) fn file_named(alloc: Global, path: &str) -> Detail {
+    format!(in alloc; "  {path}").ok()
 }
 
-/// What the system answered where a call on a file has just failed.
-pub(crate) fn system_said(alloc: Global, path: &str) -> Detail {
-    let error = io::Error::from_raw_os_error(os::errno());
-    said(alloc, path, &error)
+/// The line that names a file and what the system said of a call on its disk, if anything.
+pub(crate) fn system_said(alloc: Global, path: &str, error: Option<SystemError>) -> Detail {
+    match error {
+        Some(error) => format!(in alloc; "  {path}: {error}").ok(),
+        None => file_named(alloc, path),
+    }
 }
 
 /// The line that names a file and what the system says of it.

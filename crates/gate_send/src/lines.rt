@@ -1,12 +1,14 @@
-//! The lines of the input: each is read, kept as a touch, settled and told before the next is read.
-//! A line that asks for no touch is told, and the next one is read.
+//! The lines of the input: each is read, kept as a touch, settled and told before the next is read,
+//! or it is an enquiry, which is answered and told. A line that asks for neither is told, and the
+//! next one is read.
 
 use crate::arguments::Arguments;
 use crate::fault::{Detail, SendFault};
-use crate::file::system_said;
+use crate::file::{file_named, system_said};
 use crate::station::TcpStation;
-use gate_client::{AskFault, Client};
-use gate_sending::{Asked, Line, Told, asked_by, settle};
+use gate_client::{
+    AskFault, Asked, Client, HoldingTold, Line, Told, ask_after, asked_by, enquired_by, settle,
+};
 use oyster_account::Touch;
 use std::alloc::Global;
 use std::io::{self, ErrorKind};
@@ -14,9 +16,9 @@ use std::net::{Net, TcpListener, TcpStream};
 use std::time::{Clock, Duration};
 use tap_disk::FileDisk;
 
-/// How a line that asks for a touch is written.
+/// How a line is written.
 const FORMS: &str = "write issue CARD, in CARD STATION, out CARD STATION or top-up CARD PENCE, \
-with at SECONDS before it for a moment other than now";
+with at SECONDS before it for a moment other than now, or enquire CARD";
 
 /// The most of a bad line that is shown, in characters.
 const SHOWN: usize = 40;
@@ -24,9 +26,9 @@ const SHOWN: usize = 40;
 /// What came of the lines of an input that was read to its end.
 #[derive(Clone, Copy, Debug, PartialEq, Eq)]
 pub(crate) enum Sent {
-    /// Each asked for a touch, and was answered.
+    /// Each asked for a touch or a balance, and was answered.
     All,
-    /// The others were: at least one asked for no touch.
+    /// The others were: at least one asked for neither.
     ButBadLines,
 }
 
@@ -129,6 +131,9 @@ impl<
         let line = line.strip_suffix('\n').unwrap_or(line);
         // As other systems end a line.
         let line = line.strip_suffix('\r').unwrap_or(line);
+        if let Some(card) = enquired_by(line) {
+            return self.enquire(card);
+        }
         let now = self.now()?;
         let Some(asked) = asked_by(line, now) else {
             return Err(bad_line(self.rt.alloc(), number, line));
@@ -157,8 +162,8 @@ impl<
     fn ask_detail(&self, fault: AskFault) -> Detail {
         let (alloc, path) = (self.rt.alloc(), self.asked.file);
         match fault {
-            AskFault::Device => system_said(alloc, path),
-            _ => format!(in alloc; "  {path}").ok(),
+            AskFault::Device => system_said(alloc, path, self.client.error()),
+            _ => file_named(alloc, path),
         }
     }
 
@@ -183,6 +188,28 @@ impl<
         }
     }
 
+    /// Asks what a card holds, and tells it.
+    fn enquire(&mut self, card: u32) -> Result<(), SendFault> {
+        let tries = self.asked.tries.unwrap_or(u32::MAX);
+        let line = self.line.take();
+        match ask_after(card, &mut self.station, line, tries) {
+            Ok((holding, line)) => {
+                self.line = Some(line);
+                self.station.rest();
+                let told = HoldingTold {
+                    gate: self.asked.gate,
+                    card,
+                    holding,
+                };
+                self.rt.println(&told).map_err(|_| SendFault::Write)
+            }
+            Err(tries) => {
+                let detail = format!(in self.rt.alloc(); "  card {card}").ok();
+                Err(SendFault::Enquire(tries, detail))
+            }
+        }
+    }
+
     /// What stands behind the line of a touch that isn't settled.
     fn waits(&self, touch: &Touch) -> Detail {
         let (alloc, path) = (self.rt.alloc(), self.asked.file);
@@ -200,7 +227,7 @@ fn read_fault(error: &io::Error, number: u64) -> SendFault {
     }
 }
 
-/// The fault of a line that asks for no touch.
+/// The fault of a line that asks for nothing.
 fn bad_line(alloc: Global, number: u64, line: &str) -> SendFault {
     let shown = line.get(..SHOWN).unwrap_or(line);
     SendFault::BadLine(number, format!(in alloc; "  {shown:?}: {FORMS}").ok())

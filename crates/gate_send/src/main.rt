@@ -1,7 +1,6 @@
 //! A gate's program: it reads what to ask for as lines, keeps each touch in the gate's file, sends
 //! it to a station over TCP until its reply is there, and prints the reply. What it sends and tells
-//! is proved in `gate_client` and `gate_sending`; here are the command line, the file, sockets and
-//! times.
+//! is proved in `gate_client`; here are the command line, the file, sockets and times.
 #![tactic(auto)]
 
 mod arguments;

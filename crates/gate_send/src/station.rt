@@ -3,7 +3,7 @@
 ghost use Rattle.std.specs.Prelude.{⊤};
 
 use crate::arguments::LONGEST_PAUSE;
-use gate_sending::{Line, Station, TryFault};
+use gate_client::{Line, Station, TryFault};
 use std::net::{Net, TcpListener, TcpStream, ToSocketAddrs};
 use std::time::{Clock, Duration};
 use std::{io, thread};

@@ -14,3 +14,4 @@ pub mod AccountLemmas
 pub mod BalancesLemmas
 pub mod GateLemmas
 pub mod GateTold
+mod CommandExamples

@@ -3,7 +3,7 @@ use Rattle.std.proofs.Common.{◌≡◌, ℕ, zero, suc, ◌+◌, ◌<◌, ◌�
 use Rattle.std.proofs.Common.{take, refl, sym, ap, subst, ◌∙◌, arith, take_all}
 use Rattle.std.specs.Prelude.{sum_by, All}
 use Rattle.std.proofs.lemmas.Int.{ints}
-use Rattle.std.proofs.lemmas.List.Sums.{sum_by-cons, sum_by_more, sum_by_more_le}
+use Rattle.std.proofs.lemmas.List.Sums.{sum_by-cons, sum_by_more_le}
 use Rattle.std.proofs.lemmas.List.{append-nil}
 use Rattle.std.proofs.lemmas.List.Elements.{All-append}
 use Rattle.std.proofs.lemmas.List.FromFn.{filter_of_map_range_with_len_more}
@@ -12,7 +12,7 @@ use Rattle.oyster_account.specs.declared.reply.Judged.{Judged}
 use Rattle.reply_book.specs.Tables.{Tables}
 use Rattle.journal_audit.specs.declared.balances.row.Row.{Row}
 use Rattle.journal_audit.specs.declared.balances.sums.Sums.{Sums}
-use Rattle.journal_audit.specs.Sums.{charge_in, left_in, pence_moved, most_moved, plus}
+use Rattle.journal_audit.specs.Sums.{charge_in, left_in, pence_moved, most_moved}
 use Rattle.journal_audit.specs.BalancesRows.{is_issued, row_of, first_rows, IsBalanced, AreMeasuredRows}
 use Rattle.journal_audit.specs.Totals.{sum_signed, sums_in, totals_of}
 
@@ -34,15 +34,6 @@ three-sums f g h (x ∷ xs) =
 pub moved-in : (rows : List Row) → pence_moved (sums_in rows) ≡ sum_by (λ row. pence_moved row.sums) rows
 moved-in rows =
     three-sums (λ (row : Row). row.sums.paid_in) (λ (row : Row). row.sums.taken) (λ (row : Row). row.sums.returned) rows
-
--- one row more
-pub sums_in-more : (rows : List Row) (i : ℕ) (d : Row) → i < length rows
-    → sums_in (take (i + 1) rows) ≡ plus (sums_in (take i rows)) (get_or rows i d).sums
-sums_in-more rows i d within =
-    let paid = sum_by_more (λ (row : Row). row.sums.paid_in) rows i d within in
-    let taken = sum_by_more (λ (row : Row). row.sums.taken) rows i d within in
-    let returned = sum_by_more (λ (row : Row). row.sums.returned) rows i d within in
-    cc
 
 -- the sums over the rows so far and those of the next are within all
 pub moved-room : (rows : List Row) (i : ℕ) (d : Row) → i < length rows → AreMeasuredRows rows

@@ -22,3 +22,11 @@ pub mod Account
 pub mod Totals
 pub mod BalancesLines
 pub mod Balances
+pub mod Behind
+pub mod Command
+pub mod Differing
+pub mod Journals
+pub mod Output
+pub mod Told
+pub mod Verified
+pub mod Words

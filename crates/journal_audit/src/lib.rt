@@ -1,11 +1,13 @@
-//! What is told of a journal that is read alone, from its bytes: what they hold or why they are no
-//! sound journal, its touches with their judgements, and what its cards hold. Its main promises are
-//! those of `audit_journal`, `write_history` and `write_balances`: what is written is a stated
-//! function of the bytes and of the tables.
+//! The commands `verify`, `history` and `balances`: what is told of a journal that is read alone,
+//! from its bytes: what they hold or why they are no sound journal, its touches with their
+//! judgements, and what its cards hold. Its main promises are those of `audit_journal`,
+//! `write_history` and `write_balances`: what is written is a stated function of the bytes and of
+//! the tables. In `CommandFault` stands in which words the fault of any command is told.
 #![tactic(auto)]
 
 mod audit;
 mod balances;
+mod commands;
 mod fault;
 mod gate_file;
 mod history;
@@ -20,6 +22,14 @@ pub use audit::header::Asked;
 pub use audit::seal::{Seal, Sealed};
 pub use balances::totals::Totals;
 pub use balances::write_balances;
+pub use commands::balances::tell_balances;
+pub use commands::behind::{look_behind, tell_behind, tell_end};
+pub use commands::explanation::{OpenedBy, explained};
+pub use commands::fault::{CommandFault, tell_command_fault};
+pub use commands::history::tell_history;
+pub use commands::journals::{explained_balances, explained_history, explained_verify};
+pub use commands::output::{Output, PIPE_STATUS, ended_by};
+pub use commands::verify::verify_journal;
 pub use fault::{AuditFault, GateFault, HeaderFault, SealFault};
 pub use gate_file::audit_gate_file;
 pub use history::wanted::{HistoryFormat, Wanted};

@@ -9,12 +9,14 @@ use Rattle.reply_book.specs.Tables.{Tables}
 use Rattle.reply_book.specs.Lookup.{found, is_same_touch}
 use Rattle.reply_book.specs.View.{view_after}
 use Rattle.line_replay.specs.declared.hex_line.TheConstants.{LINE_LIMIT}
+use Rattle.line_replay.specs.declared.fault.ReplayFault.{ReplayFault}
 use Rattle.line_replay.specs.declared.fault.ReplayFault.TheVariants as fault
+use Rattle.console.specs.Told.{told_trial}
 use Rattle.line_replay.specs.Line.{lines_of}
 use Rattle.line_replay.specs.HexLine.{request_of, request_of_line, answer_line}
 use Rattle.line_replay.specs.Station.{answer, after}
 use Rattle.line_replay.specs.Replay.{Output, output_of_lines, output_of}
-use Rattle.line_replay.specs.Texts.{printed_replay_fault}
+use Rattle.line_replay.specs.Texts.{printed_replay_fault, replay_fault}
 
 -- a line of digits
 abbrev line : List ℕ → List ℕ
@@ -84,3 +86,8 @@ printed_bad_line = refl
 printed_line_of_three_digits : printed_replay_fault (fault.BadLine 129) ≡ codes "fault run 4 BadLine 129"
 unfolding digits
 printed_line_of_three_digits = refl
+
+-- the command `replay` tells a fault by the line that the fault prints
+told_as_it_is_printed : (early : ReplayFault) → told_trial (replay_fault early) ≡ Some (printed_replay_fault early)
+told_as_it_is_printed (fault.Run run) = refl
+told_as_it_is_printed (fault.BadLine number) = refl

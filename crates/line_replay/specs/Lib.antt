@@ -5,3 +5,4 @@ pub mod Replay
 pub mod Progress
 pub mod Run
 pub mod Texts
+pub mod Input

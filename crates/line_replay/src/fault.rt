@@ -3,8 +3,9 @@
 ghost use Rattle.std.specs.Prelude.{◌≡◌, Some};
 ghost use Rattle.text_io.specs.declared.fault.RunFault.TheVariants.{Memory, Write};
 ghost use Rattle.line_replay.specs.declared.fault.ReplayFault.TheVariants.{Run};
-ghost use Rattle.line_replay.specs.Texts.{printed_replay_fault};
+ghost use Rattle.line_replay.specs.Texts.{printed_replay_fault, replay_fault};
 
+use console::TrialFault;
 use std::alloc::{AllocError, AllocFailed};
 use std::fmt;
 use text_io::{RunFault, WriteFault};
@@ -62,5 +63,17 @@ impl From<WriteFault> for ReplayFault {
 
     fn from(_fault: WriteFault) -> ReplayFault {
         ReplayFault::Run(RunFault::Write)
+    }
+}
+
+/// Why a replay ended early is told as it is.
+impl From<ReplayFault> for TrialFault {
+    ghost from_gives = { λ given fault. fault ≡ replay_fault given };
+
+    fn from(fault: ReplayFault) -> TrialFault {
+        match fault {
+            ReplayFault::Run(fault) => TrialFault::Run(fault),
+            ReplayFault::BadLine(number) => TrialFault::BadLine(number),
+        }
     }
 }

@@ -39,10 +39,6 @@ not-false : (b : Bool) → not b ≡ false → IsTrue b
 not-false true is = refl
 not-false false is = absurd (cc)
 
-&&-second : (a b : Bool) → (a && b) ≡ true → b ≡ true
-&&-second true b is = is
-&&-second false b is = absurd (cc)
-
 or_left : (a b : Bool) → (a || b) ≡ false → a ≡ false
 or_left true b is = absurd (cc)
 or_left false b is = refl

@@ -3,5 +3,4 @@
 mod of_gate_session;
 mod of_line_replay;
 mod of_reply_book;
-mod of_table_report;
 mod of_text_io;

@@ -16,14 +16,13 @@ use Rattle.fare_table.proofs.BoundLemmas.{fare-bound}
 use Rattle.fare_table.specs.declared.fares.Fares.{Fares}
 use Rattle.fare_schedule.specs.InForce.{Revision}
 use Rattle.fare_schedule.specs.declared.schedule.Schedule.{Schedule}
-use Rattle.fare_schedule.specs.Schedule.{revisions_of}
 use Rattle.fare_schedule.specs.Schedule.{tables_of as schedule_tables}
 use Rattle.oyster_account.specs.declared.touch.Act.{Act}
 use Rattle.oyster_account.specs.declared.touch.Act.TheVariants.{Enter, Leave, TopUp, Issue, Revise}
 use Rattle.oyster_account.specs.declared.reply.Judged.{Judged}
 use Rattle.oyster_account.specs.Touch.{is_revision, moment_of}
 use Rattle.oyster_account.specs.History.{is_accepted}
-use Rattle.oyster_account.specs.Scheme.{Scheme, scheme_of}
+use Rattle.oyster_account.specs.Scheme.{Scheme}
 use Rattle.oyster_account.specs.Priced.{IsPriced}
 use Rattle.oyster_account.specs.Judge.{has_reached, is_day_bad}
 use Rattle.reply_book.specs.Tables.{Tables, tables_in, revision_of, revision_in, revisions_after, table_by, scheme_by}
@@ -31,10 +30,6 @@ use Rattle.reply_book.specs.Tables.{scheme_after}
 use Rattle.reply_book.specs.Reached.{day_reached, is_reached, later_of, reached_after}
 
 -- ---- the scheme
-
--- the scheme of a schedule is that of its tables and revisions
-pub scheme-of : (schedule : Schedule) → scheme_of schedule ≡ scheme_by (tables_in schedule) (revisions_of schedule)
-scheme-of schedule = refl
 
 abbrev made : Fares → List Fares → Tables
 made first supplied = record { first = first; supplied = supplied }

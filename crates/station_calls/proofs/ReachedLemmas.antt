@@ -21,10 +21,10 @@ use Rattle.gate_law.specs.WholeAgreement.{IsRun, IsStart}
 use Rattle.gate_law.proofs.ListLemmas.{contains-none}
 use Rattle.gate_law.proofs.ViewLemmas.{with-own}
 use Rattle.gate_law.proofs.WholeLemmas.{run-then}
-use Rattle.gate_calls.specs.declared.round.SettleFault.{SettleFault}
-use Rattle.gate_calls.specs.Shown as gates
-use Rattle.gate_calls.specs.ClientRuns.{gone_in, IsClientRun}
-use Rattle.gate_calls.proofs.ClientLemmas.{blank-shown}
+use Rattle.gate_law.specs.declared.round.SettleFault.{SettleFault}
+use Rattle.gate_law.specs.Shown as gates
+use Rattle.gate_law.specs.ClientRuns.{gone_in, IsClientRun}
+use Rattle.gate_law.proofs.ClientLemmas.{blank-shown}
 use Rattle.station_calls.specs.Shown as stations
 use Rattle.station_calls.specs.Openings.{AreOfFiles, IsOpeningRun, found_in}
 use Rattle.station_calls.specs.Settled.{IsSettling}

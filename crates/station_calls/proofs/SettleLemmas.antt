@@ -25,11 +25,11 @@ use Rattle.gate_law.specs.Whole.{Gate, Whole, Refusal, with_gate}
 use Rattle.gate_law.specs.WholeAgreement.{IsRun}
 use Rattle.gate_law.proofs.ViewLemmas.{with-own}
 use Rattle.gate_law.proofs.WholeLemmas.{run-then}
-use Rattle.gate_calls.specs.Shown as gates
-use Rattle.gate_calls.specs.declared.round.SettleFault.{SettleFault}
-use Rattle.gate_calls.specs.declared.round.SettleFault.TheVariants.{Unsent, Unheard}
-use Rattle.gate_calls.specs.ClientRuns.{gone_in, IsClientRun}
-use Rattle.gate_calls.proofs.ClientRunLemmas.{idle-run, heard-run, hears-run}
+use Rattle.gate_law.specs.Shown as gates
+use Rattle.gate_law.specs.declared.round.SettleFault.{SettleFault}
+use Rattle.gate_law.specs.declared.round.SettleFault.TheVariants.{Unsent, Unheard}
+use Rattle.gate_law.specs.ClientRuns.{gone_in, IsClientRun}
+use Rattle.gate_law.proofs.ClientRunLemmas.{idle-run, heard-run, hears-run}
 use Rattle.station_calls.specs.Shown as stations
 use Rattle.station_calls.specs.Commits.{IsCommitRun, answered_in}
 use Rattle.station_calls.proofs.OpeningLemmas.{beside}

@@ -8,8 +8,8 @@ use Rattle.tap_office.specs.Opening.{OpeningState}
 use Rattle.tap_office.specs.Keeper.{KeeperState}
 use Rattle.gate_law.specs.Whole.{Whole}
 use Rattle.gate_law.specs.WholeAgreement.{IsRun}
-use Rattle.gate_calls.specs.Shown as gates
-use Rattle.gate_calls.specs.Shown.{blank}
+use Rattle.gate_law.specs.Shown as gates
+use Rattle.gate_law.specs.Shown.{blank}
 use Rattle.station_calls.specs.Shown as stations
 use Rattle.station_calls.specs.Openings.{station_found}
 

@@ -10,10 +10,10 @@ use Rattle.tap_office.specs.Name.{Opened}
 use Rattle.tap_office.specs.Keeper.{KeeperState}
 use Rattle.gate_law.specs.Whole.{Whole, Refusal}
 use Rattle.gate_law.specs.WholeAgreement.{IsRun}
-use Rattle.gate_calls.specs.declared.round.SettleFault.{SettleFault}
-use Rattle.gate_calls.specs.declared.round.SettleFault.TheVariants.{Unsent, Unheard}
-use Rattle.gate_calls.specs.ClientRuns.{told_of, refused_of}
-use Rattle.gate_calls.specs.Shown as gates
+use Rattle.gate_law.specs.declared.round.SettleFault.{SettleFault}
+use Rattle.gate_law.specs.declared.round.SettleFault.TheVariants.{Unsent, Unheard}
+use Rattle.gate_law.specs.ClientRuns.{told_of, refused_of}
+use Rattle.gate_law.specs.Shown as gates
 use Rattle.station_calls.specs.Shown as stations
 
 -- what the gate's caller is told: the touch with its reply, where there is one

@@ -7,14 +7,14 @@ ghost use Rattle.gate_session.specs.Answers.{AnswerFits, ReplyFits, answer_frame
 ghost use Rattle.text_io.specs.Writing.{IsBeginning};
 ghost use Rattle.gate_client.specs.Client.{HasAsked, answered, waits_of};
 ghost use Rattle.gate_law.specs.Whole.{Whole};
-ghost use Rattle.gate_calls.specs.Shown as gates;
+ghost use Rattle.gate_law.specs.Shown as gates;
 ghost use Rattle.station_calls.specs.Shown as stations;
 ghost use Rattle.station_calls.specs.Commits.{answer_to};
 ghost use Rattle.station_calls.specs.Settled.{IsSettling};
 
 use crate::commit::commit_in_steps;
-use gate_calls::{SettleFault, send_in_steps};
 use gate_client::{Client, HearFault};
+use gate_law::{SettleFault, send_in_steps};
 use gate_session::{ANSWER_SIZE, Answer};
 use oyster_account::{Reply, Touch};
 use std::alloc::Global;

@@ -3,13 +3,12 @@
 #![tactic(auto)]
 
 use command_line::{Arguments, Check, arguments_of, refuse_command};
+use console::{SystemFiles, TrialFault, tell_fault, words_of};
+use line_replay::replay_input;
 use std::io;
 use std::process::ExitCode;
 use std::rt::{Env, Files};
-use table_commands::{
-    SystemFiles, TrialFault, check_file, replay_input, tell_changes, tell_fare, tell_fault,
-    words_of,
-};
+use table_check::{check_file, tell_changes, tell_fare};
 
 fn main(rt: HostRuntime) -> io::Result<ExitCode> {
     match run(&rt) {

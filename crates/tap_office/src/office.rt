@@ -18,7 +18,7 @@ use crate::sync_times;
 use oyster_account::Touch;
 use std::marker::PhantomData;
 use std::sync::{Mutex, Wait};
-use tap_disk::Disk;
+use tap_disk::{Disk, SystemError};
 
 /// How many touches were found at the opening.
 #[derive(Drop)]
@@ -98,6 +98,13 @@ impl<N: Named, D: Disk> Office<N, D> {
         drop(keeper);
         self.board.pass(rt, turn);
         answer
+    }
+
+    /// What the system answered at the first call of the journal's disk that it refused with an
+    /// error of a number. `None` where it refused none so. It waits for the lock.
+    pub fn error<R: Wait>(&self, rt: &R) -> Option<SystemError> {
+        let keeper = self.keeper.lock(rt);
+        keeper.journal.error()
     }
 
     /// Closes the office against its seats' receipts: the history is what was found at the opening

@@ -3,29 +3,21 @@
 //! stated function of what is read.
 #![tactic(auto)]
 
-mod failure;
-mod journal;
-mod journals;
-mod noted;
-mod server;
-mod standard;
-mod station_line;
-mod system;
-mod watch;
-
-use crate::journals::{balances, history, migrate, verify};
-use crate::server::serve_gates;
-use crate::standard::standard_files;
-use crate::system::System;
 use command_line::{Arguments, Check, arguments_of};
-use journal_commands::{CommandFault, Output, ended_by, tell_command_fault};
+use console::{SystemFiles, words_of};
+use journal_audit::{
+    CommandFault, Output, ended_by, explained_balances, explained_history, explained_verify,
+    tell_command_fault,
+};
+use journal_service::{System, explained_migrate, serve_gates, standard_files};
+use line_replay::replay_input;
 use std::fs::File;
 use std::io;
 use std::io::Write;
 use std::net::{Net, TcpListener, TcpStream};
 use std::process::ExitCode;
 use std::rt::{Env, Files};
-use table_commands::{SystemFiles, check_file, replay_input, tell_changes, tell_fare, words_of};
+use table_check::{check_file, tell_changes, tell_fare};
 
 fn main(rt: HostRuntime) -> io::Result<ExitCode> {
     match run(&rt) {
@@ -81,9 +73,9 @@ fn done<
             let _held = standard_files(rt);
             serve_gates(rt, &asked)
         }
-        Arguments::Migrate(asked) => migrate(rt, &files, &asked, output),
-        Arguments::Verify(asked) => verify(rt, &files, &asked, output),
-        Arguments::History(asked) => history(rt, &files, &asked, output),
-        Arguments::Balances(asked) => balances(rt, &files, &asked, output),
+        Arguments::Migrate(asked) => explained_migrate(rt, &files, &asked, output),
+        Arguments::Verify(asked) => explained_verify(rt, &files, &asked, output),
+        Arguments::History(asked) => explained_history(rt, &files, &asked, output),
+        Arguments::Balances(asked) => explained_balances(rt, &files, &asked, output),
     }
 }

@@ -4,9 +4,7 @@ mod fakes;
 mod sessions;
 mod vectors;
 
-use gate_session::{
-    Answer, FaultCode, Feed, FirstFrame, Request, Step, first_frame, stream_length,
-};
+use gate_session::{Answer, FaultCode, Feed, FirstFrame, Request, Step, first_frame};
 use oyster_account::{CardState, CardView, Reply};
 use std::alloc::{AllocError, Global};
 use std::fmt::Debug;
@@ -121,9 +119,8 @@ fn take_all(rt: &impl Abort, feed: &mut Feed, want: &[Request], place: usize) ->
 #[test]
 fn a_stream_cut_anywhere_has_the_same_requests(rt: HostRuntime) -> Result<(), Fail> {
     let want = requests();
-    let mut stream = joined(rt.alloc(), &FRAMES)?;
+    let stream = joined(rt.alloc(), &FRAMES)?;
     assert_eq!(rt; stream.len(), 83);
-    assert_same(&rt, stream_length(&stream), 83);
     for cut in 0..=83usize {
         let (first, second) = stream.split_at(cut);
         let mut feed = Feed::new(rt.alloc());
@@ -133,8 +130,6 @@ fn a_stream_cut_anywhere_has_the_same_requests(rt: HostRuntime) -> Result<(), Fa
         let taken = take_all(&rt, &mut feed, &want, taken);
         assert_same_at(&rt, (taken, feed.next()), (5, Step::More), cut);
     }
-    stream.truncate(40);
-    assert_same(&rt, stream_length(&stream), 38);
     Ok(())
 }
 

@@ -11,7 +11,7 @@ use std::marker::Brand;
 use std::sync::Wait;
 use std::thread;
 use std::thread::Threads;
-use tap_disk::{Device, Disk};
+use tap_disk::{Device, Disk, SystemError};
 use tap_office::{Named, Office, Seat};
 
 /// How many gates commit side by side.
@@ -46,6 +46,8 @@ impl<D: Disk> Disk for PausedDisk<D> {
 
     ghost failed_calls = { λ paused. D.failed_calls paused.disk };
 
+    ghost first_said = { λ paused. D.first_said paused.disk };
+
     ghost honest = { λ paused. D.honest paused.disk };
 
     ghost content_is_outcome = { λ paused. D.content_is_outcome paused.disk };
@@ -69,6 +71,10 @@ impl<D: Disk> Disk for PausedDisk<D> {
 
     fn len(&mut self) -> Result<u64, Device> {
         self.disk.len()
+    }
+
+    fn error(&self) -> Option<SystemError> {
+        self.disk.error()
     }
 
     fn failures(&self) -> u64 {

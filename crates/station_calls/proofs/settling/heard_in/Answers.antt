@@ -1,4 +1,4 @@
-use Rattle.gate_calls.proofs.SettledLemmas.{heard_begins}
+use Rattle.gate_law.proofs.SettledLemmas.{heard_begins}
 use Rattle.station_calls.proofs.settling.heard_in.Goals as goal
 
 pub returns-clause-reply : goal.returns-clause-reply

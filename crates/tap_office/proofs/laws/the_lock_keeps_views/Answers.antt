@@ -1,4 +1,4 @@
-use Rattle.std.proofs.Common.{◌≡◌, subst, ◌∙◌}
+use Rattle.std.proofs.Common.{subst, ◌∙◌}
 use Rattle.reply_book.specs.Book.{entries_of, tables_of}
 use Rattle.reply_book.specs.Legal.{history_of}
 use Rattle.reply_book.specs.View.{view_after}

@@ -1,0 +1,5 @@
+pub mod Detail
+pub mod Files
+pub mod Refusal
+pub mod Told
+pub mod Trial

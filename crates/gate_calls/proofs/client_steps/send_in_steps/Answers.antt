@@ -1,7 +1,0 @@
-use Rattle.gate_calls.proofs.ClientLemmas.{if_ok}
-use Rattle.gate_calls.proofs.ClientRunLemmas.{sent-run}
-use Rattle.gate_calls.proofs.client_steps.send_in_steps.Goals as goal
-
-pub returns-clause-steps : goal.returns-clause-steps
-returns-clause-steps g c alone cards number whole t shown waits =
-    if_ok c.send.result (λ u. sent-run alone cards number whole c.args.client.now t shown waits)

@@ -1,5 +1,0 @@
-use Rattle.gate_calls.proofs.SettledLemmas.{begins_take}
-use Rattle.gate_calls.proofs.round.brought.Goals as goal
-
-pub returns : goal.returns
-returns c = begins_take c.min.result c.args.bytes.now

@@ -1,0 +1,64 @@
+-- An enquiry over a line: which lines ask for one, what passes, and the line of its answer
+-- (docs/COMMANDS.md, "gate_send"; docs/PROTOCOL.md, "Frames"; this project's choice).
+use Rattle.std.specs.Prelude.{◌≡◌, ℕ, List, ◌++◌, codes, Option, Result, Ok, Err}
+use Rattle.std.specs.Fmt.{decimal, signed_decimal}
+use Rattle.std.specs.Io.KnownBytes.{Appends, Consumes}
+use Rattle.oyster_account.specs.declared.reply.CardState.{CardState}
+use Rattle.oyster_account.specs.declared.reply.CardState.TheVariants.{Vacant, Outside, Inside}
+use Rattle.gate_session.specs.declared.request.Request.TheVariants as requests
+use Rattle.gate_session.specs.declared.answer.Answer.TheVariants as answers
+use Rattle.gate_session.specs.Frames.{request_frame}
+use Rattle.gate_session.specs.Answers.{answer_frame}
+use Rattle.text_io.specs.Writing.{IsCutShort}
+use Rattle.gate_client.specs.Asking.{IsNumber, spaced}
+use Rattle.gate_client.specs.declared.fault.LineFault.{LineFault}
+use Rattle.gate_client.specs.declared.attempt.TryFault.{TryFault}
+use Rattle.gate_client.specs.declared.attempt.TryFault.TheVariants.{Unreached, Cut, Unheard}
+use Rattle.gate_client.specs.declared.enquiry.Holding.{Holding}
+
+-- a line asks what this card holds: `enquire 3`
+pub record Enquires (line : List ℕ) (card : ℕ) : Type 0 where
+  pub rest : List ℕ
+  pub parts : line ≡ spaced (codes "enquire") rest
+  pub number : IsNumber 32 rest card
+
+-- the one frame of an enquiry
+abbrev pub enquiry_frame : ℕ → List ℕ
+enquiry_frame card = request_frame (requests.Enquire card)
+
+-- what a sending wrote of an enquiry's frame: all of it, or a beginning of which some is missing
+abbrev pub IsEnquired : ℕ → List ℕ → Result Unit LineFault → Type 0
+IsEnquired card text (Ok sent) = text ≡ enquiry_frame card
+IsEnquired card text (Err fault) = IsCutShort text (enquiry_frame card)
+
+-- what a try wrote of it: all of it, but where it was cut a beginning, and nothing where there was
+-- no line
+abbrev pub HasEnquired : ℕ → List ℕ → Result Holding TryFault → Type 0
+HasEnquired card text (Ok holding) = text ≡ enquiry_frame card
+HasEnquired card text (Err Cut) = IsCutShort text (enquiry_frame card)
+HasEnquired card text (Err (Unheard fault)) = text ≡ enquiry_frame card
+HasEnquired card text (Err Unreached) = ⊥
+
+-- the one frame of an enquiry's answer
+abbrev pub holding_frame : Holding → List ℕ
+holding_frame holding = answer_frame (answers.Holding holding.view holding.front)
+
+-- between two moments of a line the enquiry's frame was written to it, and this answer was read,
+-- and nothing else
+pub record HasAnswered (card : ℕ) (holding : Holding) (unread left written after : Option (List ℕ))
+    : Type 0 where
+  pub sent : Appends written after (enquiry_frame card)
+  pub heard : Consumes unread left (holding_frame holding)
+
+-- where a card is, in a word
+abbrev pub state_text : CardState → List ℕ
+state_text Vacant = codes "vacant"
+state_text Outside = codes "outside"
+state_text Inside = codes "inside"
+
+-- the fields of a reply's line: no number, station, pence or change stand there, and the card's
+-- state in the place of a verdict
+abbrev pub holding_text : ℕ → ℕ → Holding → List ℕ
+holding_text gate card holding = decimal gate ++ (codes ",," ++ (decimal card
+    ++ (codes ",enquiry,,," ++ (state_text holding.view.state
+    ++ (codes ",," ++ signed_decimal holding.view.balance)))))

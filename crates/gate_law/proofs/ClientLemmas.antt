@@ -1,0 +1,187 @@
+-- What a client shows of its gate, and what a crash may leave of the gate's file.
+use Rattle.std.proofs.Common.{◌≡◌, inl, inr, ℕ, suc, ◌-◌, ◌==◌, Bool, true, false, cond, List, [], ◌∷◌, ◌++◌, length}
+use Rattle.std.proofs.Common.{refl, sym, ap, ◌∙◌, subst, arith, append-nil, Option, Some, None, Result, Ok, Err}
+use Rattle.std.proofs.Common.{is_some}
+use Rattle.std.proofs.Common.{IfOk, IfErr, OnOk, OnErr}
+use Rattle.std.specs.Prelude.{slice_get, IsSome}
+use Rattle.std.proofs.lemmas.Option.{slice_get-get_or}
+use Rattle.oyster_account.specs.declared.touch.Act.{Act}
+use Rattle.oyster_account.specs.declared.touch.Touch.{Touch}
+use Rattle.reply_book.proofs.NameLemmas.{equal}
+use Rattle.tap_disk.specs.declared.disk.Disk.{Ghosts}
+use Rattle.tap_journal.specs.Layout.{Header}
+use Rattle.tap_journal.specs.Image.{WithOrWithout}
+use Rattle.gate_law.specs.Joint.{is_any}
+use Rattle.gate_client.specs.declared.client.Client.{Client}
+use Rattle.gate_client.specs.File.{last_of, next_touch}
+use Rattle.gate_client.specs.Client.{HasAsked, gate_of, waits_of, is_stopped}
+use Rattle.gate_client.specs.Client.{disk_of, header_in}
+use Rattle.gate_law.specs.Whole.{Gate, Whole, with_gate}
+use Rattle.gate_law.proofs.ViewLemmas.{with-other}
+use Rattle.gate_law.specs.Shown.{IsInFile, IsShownBy, blank}
+use Rattle.gate_law.specs.ClientRuns.{gone_in}
+
+-- ---- gates
+
+-- a gate in its own place changes nothing
+pub with-same : (gates : ℕ → Gate) (number : ℕ) → with_gate gates number (gates number) ≡ gates
+with-same gates number = λ i other. each other i
+  where
+    by_test : (other : ℕ) (b : Bool) → (other == number) ≡ b → with_gate gates number (gates number) other ≡ gates other
+    by_test other true e =
+        ap (λ (b : Bool). cond b (gates number) (gates other)) e ∙ ap gates (sym (equal other number e))
+    by_test other false e = ap (λ (b : Bool). cond b (gates number) (gates other)) e
+
+    each : (other : ℕ) → with_gate gates number (gates number) other ≡ gates other
+    each other = by_test other (other == number) refl
+
+-- of two in one place the last stays
+pub with-twice : (gates : ℕ → Gate) (number : ℕ) (first last : Gate)
+    → with_gate (with_gate gates number first) number last ≡ with_gate gates number last
+with-twice gates number first last = λ i other. each other i
+  where
+    by_test : (other : ℕ) (b : Bool) → (other == number) ≡ b
+        → with_gate (with_gate gates number first) number last other ≡ with_gate gates number last other
+    by_test other true e =
+        ap (λ (b : Bool). cond b last (with_gate gates number first other)) e
+        ∙ sym (ap (λ (b : Bool). cond b last (gates other)) e)
+    by_test other false e =
+        ap (λ (b : Bool). cond b last (cond b first (gates other))) e
+        ∙ sym (ap (λ (b : Bool). cond b last (gates other)) e)
+
+    each : (other : ℕ) → with_gate (with_gate gates number first) number last other ≡ with_gate gates number last other
+    each other = by_test other (other == number) refl
+
+-- nothing happens
+pub gone-none : (number : ℕ) (whole : Whole) → gone_in number whole (whole.gates number) [] ≡ whole
+gone-none number whole =
+    ap (λ (gates : ℕ → Gate). record whole { gates = gates; sent = whole.sent ++ [] }) (with-same whole.gates number)
+    ∙ ap (λ (l : List Touch). record whole { sent = l }) (append-nil whole.sent)
+
+-- only the gate is changed
+pub gone-gate : (number : ℕ) (whole : Whole) (gate : Gate)
+    → gone_in number whole gate [] ≡ record whole { gates = with_gate whole.gates number gate }
+gone-gate number whole gate =
+    ap (λ (l : List Touch). record whole { gates = with_gate whole.gates number gate; sent = l })
+    (append-nil whole.sent)
+
+-- ---- lists of touches
+
+-- there is a last one where there is one
+pub is_any-last : (touches : List Touch) → is_any touches ≡ is_some (last_of touches)
+is_any-last [] = refl
+is_any-last (t ∷ ts) = sym (ap is_some (slice_get-get_or (t ∷ ts) (length (t ∷ ts) - 1) t (omega arith)))
+
+-- the last stands behind the others
+pub last-split : (touches : List Touch) (t : Touch) → last_of touches ≡ Some t
+    → (earlier : List Touch) × (touches ≡ earlier ++ t ∷ [])
+last-split [] t is = absurd cc
+last-split (x ∷ []) t is = ([], ap (λ (y : Touch). y ∷ []) (by_some is))
+  where
+    by_some : Some x ≡ Some t → x ≡ t
+    by_some e = cc
+last-split (x ∷ y ∷ ys) t is =
+    let place : length (x ∷ y ∷ ys) - 1 ≡ suc (length (y ∷ ys) - 1) = omega arith in
+    let rest = last-split (y ∷ ys) t (sym (ap (slice_get (x ∷ y ∷ ys)) place) ∙ is) in
+    (x ∷ rest.0, ap (λ (l : List Touch). x ∷ l) rest.1)
+
+-- ---- what a crash may leave
+
+-- a gate with this file, where a touch waited: it isn't asked for another
+pub left-as : (h : Header) (number : ℕ) (gate other : Gate) (content : List ℕ) → gate.waits ≡ true
+    → other.file ≡ gate.file → IsInFile h number gate content → IsInFile h number other content
+left-as h number gate other content waited same is = elim is.either [
+  | inl all ↦ record {
+    left = is.left;
+    waits = other.waits;
+    either = inl (all.0 ∙ sym same, refl);
+    image = is.image;
+  }
+  | inr more ↦ let no : true ≡ false = sym waited ∙ more.1.none in absurd cc
+]
+
+-- none waits where it isn't so that one does
+pub none-waits : (waits : Option Touch) → (IsSome waits → ⊥) → waits ≡ None
+none-waits None never = refl
+none-waits (Some t) never = absurd (never refl)
+
+-- what is said of a value that was handed out, and of a fault
+pub when_ok : {T E : Type 0} (P : T → Type 0) (result : Result T E) → IfOk result P → (t : T) → result ≡ Ok t → P t
+when_ok P (Ok x) is t e = let same : x ≡ t = cc in subst P same is
+when_ok P (Err fault) is t e = absurd cc
+
+pub when_err : {T E : Type 0} (A : Type 0) (result : Result T E) → OnErr result A → (fault : E) → result ≡ Err fault → A
+when_err A (Ok x) is fault e = absurd cc
+when_err A (Err x) is fault e = is
+
+pub when_fault : {T E : Type 0} (P : E → Type 0) (result : Result T E) → IfErr result P → (fault : E)
+    → result ≡ Err fault → P fault
+when_fault P (Ok x) is fault e = absurd cc
+when_fault P (Err x) is fault e = let same : x ≡ fault = cc in subst P same is
+
+pub when_on : {T E : Type 0} (A : Type 0) (result : Result T E) → OnOk result A → (t : T) → result ≡ Ok t → A
+when_on A (Ok x) is t e = is
+when_on A (Err fault) is t e = absurd cc
+
+-- and where that is so of each value, it is said
+pub if_ok_is : {T E : Type 0} {P : T → Type 0} (result : Result T E) → ((t : T) → result ≡ Ok t → P t) → IfOk result P
+if_ok_is (Ok x) each = each x refl
+if_ok_is (Err fault) each = tt
+
+pub if_ok : {T E : Type 0} {P : T → Type 0} (result : Result T E) → ((t : T) → P t) → IfOk result P
+if_ok (Ok x) each = each x
+if_ok (Err fault) each = tt
+
+module _ {D : Type 0} {g : Ghosts D} where
+  -- what a client that goes on has recorded
+  pub left-recorded : (number : ℕ) (gate : Gate) (client : Client D g) → HasAsked gate.file client
+      → is_stopped client ≡ false → g.honest (disk_of client) → (c : List ℕ) → g.outcome (disk_of client) c
+      → IsInFile (header_in client) number gate c
+  left-recorded number gate client asked going well c out = record {
+    left = gate.file;
+    waits = gate.waits;
+    either = inl (refl, refl);
+    image = (asked.recorded.going going).left well c out;
+  }
+
+  -- what an asking that was cut, or failed, may leave
+  pub left-either : (number : ℕ) (gate : Gate) (client : Client D g) (h : Header) (card : ℕ) (act : Act)
+      (c : List ℕ) → gate_of client ≡ number → gate.waits ≡ false
+      → WithOrWithout h gate.file (next_touch (gate_of client) gate.file card act) c → IsInFile h number gate c
+  left-either number gate client h card act c own none either = elim either [
+    | inl without ↦ record { left = gate.file; waits = gate.waits; either = inl (refl, refl); image = without }
+    | inr with_it ↦ record {
+      left = gate.file ++ next_touch (gate_of client) gate.file card act ∷ [];
+      waits = true;
+      either = inr (
+        next_touch (gate_of client) gate.file card act,
+        record { none = none; own = own; numbered = refl },
+        refl,
+        refl,
+      );
+      image = with_it;
+    }
+  ]
+
+  -- a client without touches shows a gate that was asked nothing
+  pub blank-shown : (number : ℕ) (client : Client D g) → HasAsked [] client → waits_of client ≡ None
+      → is_stopped client ≡ false → gate_of client ≡ number → IsShownBy number blank client
+  blank-shown number client asked none going is = record {
+    number_is = is;
+    asked = asked;
+    waits = sym (ap is_some none);
+    going = refl;
+    left = λ well c out. left-recorded number blank client asked going well c out;
+  }
+
+  -- what one gate does leaves what the client of another shows
+  pub others-shown : (number other : ℕ) (whole : Whole) (gate : Gate) (more : List Touch) (client : Client D g)
+      → (other ≡ number → ⊥) → IsShownBy other (whole.gates other) client
+      → IsShownBy other ((gone_in number whole gate more).gates other) client
+  others-shown number other whole gate more client differ shown = by_test (other == number) refl
+    where
+      by_test : (b : Bool) → (other == number) ≡ b
+          → IsShownBy other ((gone_in number whole gate more).gates other) client
+      by_test true e = absurd (differ (equal other number e))
+      by_test false e =
+          subst (λ (x : Gate). IsShownBy other x client) (sym (with-other whole.gates number other gate e)) shown

@@ -1,3 +1,0 @@
-mod Examples
-pub mod AskingLemmas
-pub mod SettlingLemmas

@@ -1,4 +1,0 @@
-pub mod Asking
-pub mod Exchange
-pub mod Told
-pub mod Texts

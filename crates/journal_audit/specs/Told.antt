@@ -1,0 +1,37 @@
+-- What a fault prints: the line that standard error gets of it (docs/FAULTS.md, "Faults"; this
+-- project's choice).
+use Rattle.std.specs.Prelude.{ℕ, List, ◌++◌, Option, Some, codes}
+use Rattle.std.specs.Fmt.{decimal}
+use Rattle.journal_audit.specs.Texts.{printed_gate_fault, printed_header_fault, printed_seal_fault}
+use Rattle.text_io.specs.declared.fault.RunFault.TheVariants.{Write}
+use Rattle.console.specs.Told.{told_trial}
+use Rattle.console.specs.declared.fault.TrialFault.TheVariants.{Run}
+use Rattle.tap_journal.specs.Texts.{printed_cause, printed_fault as printed_journal_fault}
+use Rattle.journal_audit.specs.declared.commands.fault.CommandFault.{CommandFault}
+use Rattle.journal_audit.specs.declared.commands.fault.CommandFault.TheVariants.{Trial, Journal}
+use Rattle.journal_audit.specs.declared.commands.fault.CommandFault.TheVariants.{Migrate}
+use Rattle.journal_audit.specs.declared.commands.fault.CommandFault.TheVariants.{Header, Seal}
+use Rattle.journal_audit.specs.declared.commands.fault.CommandFault.TheVariants.{Gate, Card, Output}
+use Rattle.journal_audit.specs.declared.commands.fault.CommandFault.TheVariants.{Place, Behind}
+use Rattle.journal_audit.specs.declared.commands.fault.CommandFault.TheVariants.{Balance}
+use Rattle.journal_audit.specs.declared.commands.fault.CommandFault.TheVariants.{Listen}
+use Rattle.journal_audit.specs.declared.commands.fault.CommandFault.TheVariants.{SeatMissing}
+use Rattle.journal_audit.specs.declared.commands.fault.CommandFault.TheVariants.{Mismatch}
+
+-- the line of a fault: the name of its part, and what that part prints of it
+abbrev pub told_fault : CommandFault → Option (List ℕ)
+told_fault (Trial fault) = told_trial fault
+told_fault (Journal fault _) = Some (codes "fault journal " ++ printed_journal_fault fault)
+told_fault (Migrate cause _) = Some (codes "fault migrate " ++ printed_cause cause)
+told_fault (Header fault) = Some (codes "fault header " ++ printed_header_fault fault)
+told_fault (Seal fault) = Some (codes "fault seal " ++ printed_seal_fault fault)
+told_fault (Gate fault) = Some (codes "fault gate " ++ printed_gate_fault fault)
+told_fault (Card card cards) =
+    Some (codes "fault card " ++ (decimal card ++ (codes " above " ++ decimal cards)))
+told_fault (Place touches) = Some (codes "fault place " ++ decimal touches)
+told_fault (Behind slots _) = Some (codes "fault behind " ++ decimal slots)
+told_fault (Balance card) = Some (codes "fault balance " ++ decimal card)
+told_fault (Listen _) = Some (codes "fault listen")
+told_fault (Output _) = told_trial (Run Write)
+told_fault SeatMissing = Some (codes "fault close 1 SeatMissing")
+told_fault Mismatch = Some (codes "fault close 2 Mismatch")

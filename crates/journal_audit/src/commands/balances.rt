@@ -1,0 +1,87 @@
+//! The command `balances`: what the cards of a journal hold that is read alone.
+
+ghost use Rattle.std.specs.Prelude.{◌≡◌, ◌⊎◌, IfOk, IfErr, OnOk, map};
+ghost use Rattle.std.specs.Process.{exit_status};
+ghost use Rattle.journal_audit.specs.Balances.{AreBalances, HasEnded};
+ghost use Rattle.journal_audit.specs.declared.balances.totals.Totals.{Totals as Sums};
+ghost use Rattle.journal_audit.specs.declared.fault.AuditFault.{AuditFault};
+ghost use Rattle.journal_audit.specs.Command.{audit_fault};
+ghost use Rattle.journal_audit.specs.Words.{HasTold, IsUnread};
+ghost use Rattle.journal_audit.specs.declared.commands.fault.CommandFault.TheVariants.{Output};
+ghost use Rattle.console.specs.declared.detail.Detail.{Detail};
+
+use crate::balances::totals::Totals;
+use crate::balances::write_balances;
+use crate::commands::behind::tell_many;
+use crate::commands::fault::CommandFault;
+use crate::commands::settled::settled_file;
+use command_line::Balances;
+use console::{Detail, Refusal, WholeFiles};
+use std::alloc::Global;
+use std::io;
+use std::io::Write;
+use std::process::ExitCode;
+use table_check::tables_in;
+
+/// Writes what each issued card of the journal in a file holds, by the fare tables that are named,
+/// and tells standard error the sums. `Output` comes where it doesn't take them: then all rows were
+/// written.
+///
+/// The tables are looked at first, and then the journal's file. It is opened for reading alone, and
+/// isn't locked: a server may go on with it. It is read to its end before anything is written, and
+/// read again where it changed meanwhile and looks damaged. More open slots behind the journal's
+/// end than crashes leave are noted on standard error before the sums.
+pub fn tell_balances<R: AllocGlobal + Eprint, F: WholeFiles, W: Write>(
+    rt: &R,
+    files: &F,
+    asked: &Balances<'_>,
+    writer: &mut W,
+) -> Result<ExitCode, CommandFault>
+    ensures ok { OnOk result (HasTold (F.gave files.now) asked.now.table.now
+        (map (λ word. word.now) asked.now.revisions.items) asked.now.journal.now
+        (W.contents writer.old) (W.contents writer.new) (λ tables bytes text.
+        (totals : Sums) × AreBalances tables asked.now.at bytes text totals)) }
+    ensures status { IfOk result (λ status. exit_status status ≡ 0) }
+    ensures fault { IfErr result (λ fault. (IsUnread (F.gave files.now) asked.now.table.now
+        (map (λ word. word.now) asked.now.revisions.items) fault × (writer.new ≡ writer.old))
+        ⊎ ((cause : AuditFault) × (fault ≡ audit_fault cause)
+        × HasTold (F.gave files.now) asked.now.table.now
+        (map (λ word. word.now) asked.now.revisions.items) asked.now.journal.now
+        (W.contents writer.old) (W.contents writer.new) (λ tables bytes text.
+        HasEnded tables asked.now.at bytes text cause))
+        ⊎ ((detail : Detail) × (fault ≡ Output detail)
+        × HasTold (F.gave files.now) asked.now.table.now
+        (map (λ word. word.now) asked.now.revisions.items) asked.now.journal.now
+        (W.contents writer.old) (W.contents writer.new) (λ tables bytes text.
+        (totals : Sums) × AreBalances tables asked.now.at bytes text totals))) }
+{
+    let alloc = rt.alloc();
+    let schedule = tables_in(alloc, files, Some(asked.table), asked.revisions.as_slice())?;
+    let read = settled_file(rt, files, asked.journal)?;
+    let totals = write_balances(alloc, schedule, asked.at, &read.bytes, writer)?;
+    tell_many(rt, read.behind);
+    match tell_totals(rt, &totals) {
+        Ok(()) => Ok(ExitCode::SUCCESS),
+        Err(error) => Err(sums_fault(alloc, &error)),
+    }
+}
+
+/// The fault of sums that standard error doesn't take, for this error.
+fn sums_fault(alloc: Global, error: &io::Error) -> CommandFault
+    ensures { (detail : Detail) × (result ≡ Output detail) }
+{
+    let refusal = Refusal::of(error);
+    CommandFault::Output(Detail::of(alloc, "standard error", &refusal))
+}
+
+/// Tells the sums over all issued cards, and that they are balanced: `write_balances` refuses a
+/// journal in which a card's, or their sum, isn't. An error is that of standard error.
+fn tell_totals<R: Eprint>(rt: &R, totals: &Totals) -> io::Result<()> {
+    let (cards, balance) = (totals.cards, totals.balance);
+    let (paid_in, charged) = (totals.paid_in, totals.charged);
+    eprintln!(rt; "cards {cards}")?;
+    eprintln!(rt; "balance {balance}")?;
+    eprintln!(rt; "paid_in {paid_in}")?;
+    eprintln!(rt; "charged {charged}")?;
+    eprintln!(rt; "balanced")
+}

@@ -1,0 +1,4 @@
+pub mod Carried
+pub mod Migrated
+pub mod Prepared
+pub mod Serve

@@ -1,0 +1,32 @@
+//! The gates of a station, served from its office: all lines at once, on each one connection after
+//! the other. Its main promises are that each answer of a session is its request's (`OfficeClerk`),
+//! and that of `serve_all`: each line keeps its seat and its desk, and counts its sessions.
+#![tactic(auto)]
+
+mod ahead;
+mod begun;
+mod beside;
+mod clerk;
+mod days;
+mod fault;
+mod gate_line;
+mod looks;
+mod notice;
+mod notices;
+mod pace;
+mod post;
+mod posts;
+mod report;
+mod serving;
+mod tally;
+
+pub use clerk::OfficeClerk;
+pub use fault::ServeFault;
+pub use gate_line::{GateLine, TcpLines};
+pub use notice::{Lines, Notice, Standing, SystemSaid, Watch};
+pub use notices::{Notices, Watched};
+pub use post::{Post, Service, serve_all};
+pub use posts::{new_post, seats_of, tallies_of};
+pub use report::{write_opened, write_report};
+pub use serving::serve_office;
+pub use tally::Tally;

@@ -1,0 +1,11 @@
+pub mod Allowed
+pub mod Changes
+pub mod Check
+pub mod Comparison
+pub mod Fare
+pub mod Found
+pub mod Journey
+pub mod Place
+pub mod Reported
+pub mod Survey
+pub mod Tables

@@ -1,6 +1,0 @@
-pub mod Changes
-pub mod Check
-pub mod Fare
-pub mod Found
-pub mod Place
-pub mod Survey
