@@ -1,11 +1,11 @@
-"""Reads in packaging/ what docs/OPERATING.md has of it: the settings of units, the addresses, and where each file lies."""
+"""Reads in packaging/ what docs/OPERATING.md has of it: the settings of units, and the addresses."""
 import pathlib
 import re
 
 from fact_code import Wrong, text_of
 from fact_regions import Region
 
-PAGE, FILES = "docs/OPERATING.md", "packaging/files"
+PAGE = "docs/OPERATING.md"
 # Where each address is set, and how it is read there.
 ADDRESSES = {"packaging/serve.conf": r"^listen = (.+)$", "packaging/stunnel/bovtrila.conf": r"^accept = :::(\d+)$",
              "packaging/stunnel/gate.conf": r"^accept = (.+)$", "scripts/exporter": r'^PLACE = \("(.+)", (\d+)\)$'}
@@ -52,22 +52,6 @@ def addresses(top: pathlib.Path) -> Region:
     return Region(PAGE, "addresses", ("Set in | Address or port | Listens there", *rows), by_hand=1)
 
 
-def packaged(top: pathlib.Path) -> Region:
-    """The files of the package, by their folders. A script that can be started is a command in /usr/bin."""
-    by_folder: dict[str, list[str]] = {"/usr/bin": []}
-    for pattern, place in re.findall(r"^([^#\s]\S*) +(\S+)$", text_of(top, FILES), re.M):
-        found = sorted(top.glob(pattern)) if place.endswith("/") else [top / pattern]
-        if not found:
-            raise Wrong(f"{FILES}: no {pattern}; correct or remove the line")
-        for file in found:
-            folder, _, name = f"/{place}".rpartition("/")
-            is_command = file.parent.name == "scripts" and file.stat().st_mode & 0o100
-            own = by_folder.setdefault("/usr/bin" if is_command else folder, [])
-            own.append(f"bovtrila-{file.name}" if is_command else name or file.name)
-    rows = (f"`{folder}` | {', '.join(f'`{name}`' for name in dict.fromkeys(sorted(names)))}" for folder, names in by_folder.items())
-    return Region(PAGE, "packaged files", ("Where | Files | What", *rows), by_hand=1)
-
-
 def regions(top: pathlib.Path) -> list[Region]:
     """The regions of docs/OPERATING.md."""
-    return [units(top), addresses(top), packaged(top)]
+    return [units(top), addresses(top)]
