@@ -41,7 +41,7 @@ EXCERPTS = {
     "answers": Excerpt(("A flush takes", "A second, 1 gate", "99 % within, ms", "A second, 8 gates", "99 % within, ms",
                         "A second, 64 gates", "99 % within, ms"),
                        tuple(Rows(table, FLUSHES, (("Bovtrila",),), label) for table, label in
-                             (("stored-on-disk", "as on this disk"), ("stored-2-ms", "2 ms"), ("stored-10-ms", "10 ms")))),
+                             (("stored-on-disk", "as on this disk"), ("stored-10-ms", "10 ms")))),
     "opened": Excerpt(("Command", "Seconds", "Memory, MiB"),
                       (Rows("audits", ("Command", "Seconds", "MiB at most"), tuple((key,) for key in AUDITED)),)),
     "memory-taken": Excerpt(("Memory of the server", "Bytes"), (Rows("memory", ("Memory of the server", "Bytes")),)),
