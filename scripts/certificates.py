@@ -14,7 +14,7 @@ FILES = {"server": ("server.pem", "x509", "-enddate"), "authority": ("authority.
          "revocation list": ("revoked.pem", "crl", "-nextupdate")}
 
 
-def end_of(path, kind, option):
+def end_of(path: pathlib.Path, kind: str, option: str) -> float:
     """When the certificate or the list in a file ends, in seconds since 1970. Raises OSError where it can't be read."""
     with open(path, "rb") as file:
         done = subprocess.run(["openssl", kind, "-noout", option], stdin=file, capture_output=True, text=True)
@@ -24,9 +24,9 @@ def end_of(path, kind, option):
     return datetime.datetime.strptime(text, "%b %d %H:%M:%S %Y GMT").replace(tzinfo=datetime.UTC).timestamp()
 
 
-def listed(path):
+def listed(path: pathlib.Path) -> dict[str, float]:
     """When each gate's certificate ends, by the authority's list: the last one of those that aren't revoked."""
-    found = {}
+    found: dict[str, float] = {}
     with open(path, newline="") as file:
         for row in csv.DictReader(file):
             if row["state"] != "revoked" and row["name"] != "server":
@@ -35,10 +35,10 @@ def listed(path):
     return found
 
 
-def ends(folder):
+def ends(folder: str | pathlib.Path) -> tuple[dict[str, float], list[str]]:
     """When each certificate in a folder of the server's machine ends, by its name, and what is wrong with the others.
     Nothing is wrong where there is no such folder: then there is no TLS."""
-    folder, found, wrongs = pathlib.Path(folder), {}, []
+    folder, found, wrongs = pathlib.Path(folder), dict[str, float](), list[str]()
     try:
         if not folder.is_dir():
             return found, wrongs

@@ -2,7 +2,10 @@
 """How a server is: what scripts/status and scripts/exporter ask it and read beside it, and whether it takes new touches.
 """
 import os
+import pathlib
 import time
+from collections.abc import Iterable, Mapping
+from typing import Any
 
 import model
 import wire
@@ -17,7 +20,7 @@ BATCH = 256
 INSIDE = 2
 
 
-def ask(line):
+def ask(line: wire.Connection) -> tuple[int | None, bool, float]:
     """Asks over a connection: how many touches the server shows (`None` for another answer), whether its disk has
     failed, and how many seconds the enquiry took. Raises ConnectionError where the connection ends."""
     begun = time.monotonic()
@@ -32,11 +35,11 @@ def ask(line):
     return front, wire.is_fault(other, model.HALTED), took
 
 
-def count_inside(line, cards):
+def count_inside(line: wire.Connection, cards: Iterable[int]) -> int:
     """How many of these cards are inside, by an enquiry for each."""
-    cards, count = sorted(cards), 0
-    for place in range(0, len(cards), BATCH):
-        asked = cards[place : place + BATCH]
+    numbers, count = sorted(cards), 0
+    for place in range(0, len(numbers), BATCH):
+        asked = numbers[place : place + BATCH]
         line.send(*map(model.enquiry, asked))
         for _ in asked:
             answer = line.take()
@@ -46,14 +49,14 @@ def count_inside(line, cards):
     return count
 
 
-def disk_of(path, whole):
+def disk_of(path: str | pathlib.Path, whole: int) -> tuple[int, int]:
     """How many bytes are free on the disk of a journal, for others than root, and how many of its whole size it has
     not yet got from the disk."""
     system, file = os.statvfs(path), os.stat(path)
     return system.f_bavail * system.f_frsize, max(0, whole - 512 * file.st_blocks)
 
 
-def hindrance(found):
+def hindrance(found: Mapping[str, Any]) -> str | None:
     """Why a server takes no new touch, in words, or `None` where it does, by what was found: what isn't known there
     hinders nothing."""
     if not found.get("answers"):
@@ -63,7 +66,7 @@ def hindrance(found):
     if found.get("room") == 0:
         return "the journal is full: it takes no new touch"
     free, missing = found.get("disk_free_bytes"), found.get("journal_missing_bytes")
-    if missing and free < BLOCK:
+    if missing and free is not None and free < BLOCK:
         return (f"the disk is full: {free:,} bytes are free, and the journal needs {missing:,} more. The next touch "
                 "halts the server")
     return None

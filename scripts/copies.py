@@ -2,8 +2,11 @@
 """The folder of a journal's copies and seals: how its files are named, and how old the newest are."""
 import datetime
 import math
+import pathlib
 import re
 import time
+from collections.abc import Iterable
+from typing import NamedTuple
 
 import model
 from wire import Wrong
@@ -19,20 +22,23 @@ SEALS = "seals"
 # compared.
 REMOTE, SENT = "remote", "sent"
 SEALED = re.compile(r"(\d{8}T\d{6}Z) (\S+) (?:sealed|restored) (\d{1,7}) ([0-9a-f]{64})")
+# A line of that file: how many touches the journal had then, and their digest.
+Seal = NamedTuple("Seal", [("moment", str), ("copy", str), ("touches", int), ("digest", str)])
 
 
-def moment_of(text):
+def moment_of(text: str) -> float:
     """The seconds since 1970 of such a moment."""
-    parts = [int(text[at:at + size]) for at, size in ((0, 4), (4, 2), (6, 2), (9, 2), (11, 2), (13, 2))]
-    return datetime.datetime(*parts, tzinfo=datetime.timezone.utc).timestamp()
+    year, month, day, hour, minute, second = (
+        int(text[at:at + size]) for at, size in ((0, 4), (4, 2), (6, 2), (9, 2), (11, 2), (13, 2)))
+    return datetime.datetime(year, month, day, hour, minute, second, tzinfo=datetime.timezone.utc).timestamp()
 
 
-def text_of(moment):
+def text_of(moment: float) -> str:
     """Such a moment in a file's name."""
     return time.strftime(MOMENT, time.gmtime(moment))
 
 
-def kept(folder, ending=""):
+def kept(folder: pathlib.Path, ending: str = "") -> list[tuple[float, pathlib.Path]]:
     """The copies of a folder with their moments, the oldest first; with an ending those that have it."""
     found = []
     for path in folder.iterdir():
@@ -45,18 +51,18 @@ def kept(folder, ending=""):
     return sorted(found)
 
 
-def journal_of(path):
+def journal_of(path: pathlib.Path) -> str | None:
     """The name of the journal that a file is a copy of, by its own name; nothing where it says none."""
     match = NAMED.fullmatch(path.name)
     return match["journal"] if match else None
 
 
-def whole(size):
+def whole(size: int) -> int:
     """How many bytes the header and the whole slots are of a file of this size."""
     return size if size < model.HEADER else model.HEADER + (size - model.HEADER) // model.SLOT * model.SLOT
 
 
-def seals(folder, name=SEALS):
+def seals(folder: pathlib.Path, name: str = SEALS) -> list[Seal]:
     """The lines of the seals of a folder, the oldest first: moment, copy, number of touches and digest. A file that
     isn't there has none; one that can't be read, or has another line, is `Wrong`."""
     path = folder / name
@@ -70,14 +76,16 @@ def seals(folder, name=SEALS):
     for place, line in enumerate(lines, 1):
         match = SEALED.fullmatch(line)
         try:
+            if match is None:
+                raise ValueError(line)
             moment_of(match[1])
-        except (TypeError, ValueError):
+        except ValueError:
             raise Wrong(f"{path}: line {place} is no seal: correct it by what was written down elsewhere") from None
-        found.append((match[1], match[2], int(match[3]), match[4]))
+        found.append(Seal(match[1], match[2], int(match[3]), match[4]))
     return found
 
 
-def ages(folder):
+def ages(folder: pathlib.Path) -> tuple[float, float]:
     """How many seconds old the newest copy and the newest seal are; infinite where there is none. One from a moment
     that is still to come, as of a clock that was ahead, isn't counted."""
     now = time.time()
@@ -92,12 +100,12 @@ def ages(folder):
     return youngest(made, now), youngest(sealed, now)
 
 
-def youngest(moments, now):
+def youngest(moments: Iterable[float], now: float) -> float:
     """The age of the newest of these moments that has come."""
     return min((now - moment for moment in moments if moment <= now), default=math.inf)
 
 
-def sent_age(folder):
+def sent_age(folder: pathlib.Path) -> float:
     """How many seconds ago the journal was read whose copy was verified on another computer last; infinite where none
     was."""
     try:

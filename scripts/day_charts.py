@@ -4,8 +4,13 @@ import datetime
 import io
 import itertools
 import re
+from collections.abc import Callable, Sequence
+from typing import TYPE_CHECKING
 
-from day_tally import BEGINS, QUARTERS
+from day_tally import BEGINS, QUARTERS, Tally
+
+if TYPE_CHECKING:
+    from matplotlib.axes import Axes
 
 COLOURS = {"in": "#0072B2", "out": "#E69F00", "top-up": "#009E73", "issue": "#CC79A7"}
 # What stands behind a time that the clock showed before: in October it goes back over an hour.
@@ -15,12 +20,12 @@ SECOND = " (second)"
 class Pence(int):
     """An amount of money, which a page has in pounds."""
 
-    def __str__(self):
+    def __str__(self) -> str:
         pounds, pence = divmod(abs(self), 100)
         return f"{'−' if self < 0 else ''}£{pounds:,}.{pence:02}"
 
 
-def drawn(name, draw, height):
+def drawn(name: str, draw: Callable[["Axes"], None], height: float) -> str:
     """The SVG of a chart, as part of a page: `draw` is given its axes."""
     import matplotlib
     from matplotlib.figure import Figure
@@ -39,21 +44,21 @@ def drawn(name, draw, height):
     return f'<div class="chart">{svg}</div>'
 
 
-def shown(moment, zone, form):
+def shown(moment: int, zone: datetime.tzinfo, form: str) -> str:
     """The clock at a moment, marked where the clock had gone back and shows the time for the second time."""
     time_shown = datetime.datetime.fromtimestamp(moment, zone)
     return f"{time_shown:{form}}{SECOND if time_shown.fold else ''}"
 
 
-def clock(quarter):
+def clock(quarter: int) -> str:
     """The clock time at which a quarter of a fare day begins."""
     minute = (270 + 15 * quarter) % 1440
     return f"{minute // 60:02}:{minute % 60:02}"
 
 
-def touches_chart(tally):
+def touches_chart(tally: Tally) -> str:
     """The touches of each quarter of a fare day, by act."""
-    def draw(axes):
+    def draw(axes: "Axes") -> None:
         below = [0] * QUARTERS
         for act, counts in tally.touches.items():
             axes.bar([place + 0.5 for place in range(QUARTERS)], counts, 0.9, below, color=COLOURS[act], label=act)
@@ -68,9 +73,9 @@ def touches_chart(tally):
     return drawn("touches", draw, 2.6)
 
 
-def bars_chart(name, rows, colour, words):
+def bars_chart(name: str, rows: Sequence[tuple[str, int]], colour: str, words: Callable[[int], str]) -> str:
     """Bars of pairs of a name and a number, the first on top, with the number in words behind each."""
-    def draw(axes):
+    def draw(axes: "Axes") -> None:
         bars = axes.barh([label for label, _ in rows], [number for _, number in rows], color=colour, height=0.7)
         axes.bar_label(bars, [words(number) for _, number in rows], padding=4)
         axes.invert_yaxis()
@@ -81,9 +86,9 @@ def bars_chart(name, rows, colour, words):
     return drawn(name, draw, 0.4 + 0.28 * len(rows))
 
 
-def money_chart(tally):
+def money_chart(tally: Tally) -> str:
     """What was paid in and charged so far, at the end of each quarter of an hour."""
-    def draw(axes):
+    def draw(axes: "Axes") -> None:
         from matplotlib.dates import AutoDateLocator, ConciseDateFormatter, DateFormatter, HourLocator
         places = sorted(tally.by_quarter)
         ends = [places[0], *(place + 1 for place in places), places[-1] + 2]

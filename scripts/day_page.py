@@ -3,48 +3,57 @@
 import collections
 import datetime
 import html
+import zoneinfo
+from collections.abc import Iterable, Sequence
 
 from day_charts import COLOURS, SECOND, Pence, bars_chart, clock, money_chart, shown, touches_chart
-from day_tally import MAXIMA, QUARTERS, REASONS, REFUSALS, WEEK, days_before
+from day_tally import MAXIMA, QUARTERS, REASONS, REFUSALS, WEEK, Report, Sums, Tally, days_before
+from history_rows import Row
 
 # How many rows a long table shows, and what a page says of a digest's cell.
 SHOWN, DIGEST = 100, ' class="d"'
+# What a table's cell has: text, a number, or money, which is Pence.
+Cell = str | int
+# A part of a page: its title, its text, and the HTML below that.
+Section = tuple[str, str, str]
+# A number at the head of a page, what it is, what belongs to it, and the number of the same weekday before.
+Tile = tuple[int, str, str, int | None]
 
 
-def cell(value):
+def cell(value: Cell) -> str:
     """A table's cell: numbers stand on the right, and a digest may be broken anywhere."""
     if isinstance(value, str):
         return f"<td{DIGEST if len(value) == 64 else ''}>{html.escape(value)}</td>"
     return f'<td class="n">{value if isinstance(value, Pence) else f"{value:,}"}</td>'
 
 
-def table(heads, rows):
+def table(heads: Sequence[str], rows: Iterable[Sequence[Cell]]) -> str:
     """A table of a page: text, whole numbers, and money."""
-    rows = list(rows)
-    sides = [' class="n"' if rows and not isinstance(rows[0][place], str) else "" for place in range(len(heads))]
+    cells = list(rows)
+    sides = [' class="n"' if cells and not isinstance(cells[0][place], str) else "" for place in range(len(heads))]
     head = "".join(f"<th{side}>{html.escape(text)}</th>" for side, text in zip(sides, heads))
-    body = "".join(f"<tr>{''.join(map(cell, row))}</tr>\n" for row in rows)
+    body = "".join(f"<tr>{''.join(map(cell, row))}</tr>\n" for row in cells)
     return f'<div class="wide"><table><thead><tr>{head}</tr></thead>\n<tbody>{body}</tbody></table></div>\n'
 
 
-def several(count, word):
+def several(count: int, word: str) -> str:
     """A number with what it counts."""
     return f"{count:,} {word}{'' if count == 1 else 's'}"
 
 
-def folded(rows, body):
+def folded(rows: Sequence[object], body: str) -> str:
     """A table that is folded up, with how many rows it has, or nothing where it has none."""
     return f"<details><summary>{several(len(rows), 'row')}</summary>\n{body}</details>\n" if rows else ""
 
 
-def in_columns(heads, rows, columns=3):
+def in_columns(heads: Sequence[str], rows: Sequence[Sequence[Cell]], columns: int = 3) -> str:
     """A long table, as several beside one another."""
     size = max(8, -(-len(rows) // columns))
     parts = "".join(table(heads, rows[place:place + size]) for place in range(0, len(rows), size))
     return f'<div class="columns">{parts}</div>\n'
 
 
-def figures(tally):
+def figures(tally: Tally) -> list[tuple[str, int]]:
     """The numbers of a tally, as the page of a network has them too."""
     (cards, refused), (paid, charged) = tally.cards(), tally.money()
     sums = [tally.maxima_of(verdict) for verdict in MAXIMA]
@@ -55,29 +64,28 @@ def figures(tally):
             ("Entry charges that these hold", Pence(sum(tally.inside.values())))]
 
 
-def glance(report):
+def glance(report: Report) -> list[Tile]:
     """The tiles at the head of a page: of each a number, what it is, what belongs to it, and the number of the same
     weekday before, where the file has touches of that day."""
     tally, before = report.tally, report.before
     (cards, refused), (paid, charged), maxima = tally.cards(), tally.money(), report.maxima()
-    week = [None] * 5
-    if before is not None and before.touches_by_day:
+    week: list[int | None] = [None] * 5
+    if report.day and before is not None and before.touches_by_day:
         earlier = report.maxima(days_before(report.day, WEEK))
         week = [before.cards()[0], *map(Pence, reversed(before.money())), before.cards()[1], len(earlier)]
     silent = ", ".join(f"gate {gate}" for gate, _ in report.silent())
     held = Pence(sum(tally.inside.values()))
-    rows = [(cards, "touches of cards", f"{several(len(tally.touches_by_card), 'card')}, {several(report.gates(), 'gate')}",
-             week[0]),
+    counted = f"{several(len(tally.touches_by_card), 'card')}, {several(report.gates(), 'gate')}"
+    return [(cards, "touches of cards", counted, week[0]),
             (Pence(charged), "charged", "less what was given back", week[1]),
             (Pence(paid), "paid in", "", week[2]),
             (refused, "refused", f"{100 * refused / cards:.1f} % of the touches" if cards else "", week[3]),
             (len(maxima), "maximum charges", str(Pence(sum(each.pence for each in maxima))), week[4]),
             (len(tally.inside), "cards inside at the end", f"hold {held}" if tally.inside else "", None),
             (len(report.silent()), "silent gates", silent or "each gate of the week before had a touch", None)]
-    return rows
 
 
-def compared(number, before, day):
+def compared(number: int, before: int | None, day: str) -> str:
     """How a number differs from that of the same weekday before, in words."""
     if before is None:
         return ""
@@ -87,7 +95,7 @@ def compared(number, before, day):
     return f"{day}: {before if isinstance(before, Pence) else f'{before:,}'} ({share:+.0f} %)"
 
 
-def tiles(report):
+def tiles(report: Report) -> str:
     """The tiles, as part of a page."""
     day = f"{datetime.date.fromisoformat(days_before(report.day, WEEK)):%a %d %b}" if report.day else ""
     made = []
@@ -97,14 +105,14 @@ def tiles(report):
         small = "".join(f"<small>{html.escape(line)}</small>" for line in lines)
         made.append(f'<div class="tile"><strong>{text}</strong><span>{name}</span>{small}</div>\n')
     said = ""
-    if report.before is not None and not report.before.touches_by_day:
+    if report.day and report.before is not None and not report.before.touches_by_day:
         said = f"<p>The file has no touch of {days_before(report.day, WEEK)}, the same weekday before.</p>\n"
     return f'<div class="tiles">{"".join(made)}</div>\n{said}'
 
 
-def touches_section(tally):
+def touches_section(tally: Tally) -> Section:
     """Touches by act, quarter by quarter."""
-    rows, behind = [], []
+    rows, behind = list[tuple[Cell, ...]](), list[tuple[Cell, ...]]()
     for place in range(QUARTERS):
         all_of = [counts[place] for counts in tally.touches.values()]
         again = [counts[place] for counts in tally.second.values()]
@@ -121,7 +129,7 @@ def touches_section(tally):
             touches_chart(tally) + folded(rows, in_columns(["From", *COLOURS], rows)))
 
 
-def refusals_section(tally):
+def refusals_section(tally: Tally) -> Section:
     """Refusals by verdict."""
     rows = [(name, REFUSALS[name], count) for name, count in tally.refused().items() if count]
     if not rows:
@@ -131,13 +139,14 @@ def refusals_section(tally):
             chart + folded(rows, table(["Verdict", "Means", "Touches"], rows)))
 
 
-def money_section(tally):
+def money_section(tally: Tally) -> Section:
     """Money by the hour, or by the day where there are several."""
-    rows, paid, charged = [], 0, 0
+    rows, paid, charged = list[tuple[Cell, ...]](), 0, 0
     if len(tally.days()) == 1:
-        parts = collections.defaultdict(lambda: (0, 0))
+        parts: dict[int, Sums] = collections.defaultdict(lambda: (0, 0))
         for place in sorted(tally.by_quarter):
-            parts[place // 4] = tuple(map(sum, zip(parts[place // 4], tally.by_quarter[place])))
+            (paid_before, charged_before), (paid_in, taken) = parts[place // 4], tally.by_quarter[place]
+            parts[place // 4] = paid_before + paid_in, charged_before + taken
         named = [(shown(3600 * hour, tally.zone, "%a %H:%M"), pair) for hour, pair in parts.items()]
     else:
         named = sorted(tally.by_day.items())
@@ -153,7 +162,7 @@ def money_section(tally):
             money_chart(tally) + folded(rows, table(heads, rows)))
 
 
-def cards_section(tally):
+def cards_section(tally: Tally) -> Section:
     """The cards that were charged most."""
     rows = tally.most_charged()
     if not rows:
@@ -172,22 +181,22 @@ def cards_section(tally):
 class Stations:
     """The names of stations, by a fare table."""
 
-    def __init__(self, names=()):
+    def __init__(self, names: Iterable[tuple[int, str]] = ()) -> None:
         self.names = dict(names)
 
-    def named(self, number):
+    def named(self, number: int | str) -> str:
         name = self.names.get(int(number))
         return f"{name} ({number})" if name else f"station {number}"
 
-    def where(self, row, zone):
+    def where(self, row: Row, zone: zoneinfo.ZoneInfo) -> str:
         """When and where a touch in or out was, by the clock of the zone."""
         return f"{shown(row.moment, zone, '%Y-%m-%d %H:%M:%S')}, {self.named(row.station)}"
 
 
-def charges_section(report, stations):
+def charges_section(report: Report, stations: Stations) -> Section:
     """The maxima that the day's touches were charged, by their reasons (docs/FARES.md, "Entry charge", "Incomplete")."""
     found, zone = report.maxima(), report.tally.zone
-    sums = collections.defaultdict(lambda: [0, 0])
+    sums: dict[tuple[str, str], list[int]] = collections.defaultdict(lambda: [0, 0])
     for each in found:
         for place, number in enumerate((1, each.pence)):
             sums[each.told.verdict, each.touch.act][place] += number
@@ -207,10 +216,10 @@ def charges_section(report, stations):
             ("A touch in takes a maximum as its entry charge, and keeps it unless a touch out ends its leg in time. A "
              "touch out that ends no leg is charged a maximum too. Each stands on the day of the touch that was charged, "
              "also where a touch of a later day tells it." if found else "No touch was charged a maximum, as far as the "
-             f"file tells.") + lost, body + folded(rows, table(heads, rows)) + tail)
+             "file tells.") + lost, body + folded(rows, table(heads, rows)) + tail)
 
 
-def becomes(row, zone, stations):
+def becomes(row: Row | None, zone: zoneinfo.ZoneInfo, stations: Stations) -> str:
     """What became of a touch in that was open at the end of a day, by the card's next touch."""
     if row is None:
         return "the file has no later touch of this card"
@@ -221,7 +230,7 @@ def becomes(row, zone, stations):
     return f"left open, a maximum: in {stations.where(row, zone)}"
 
 
-def open_section(report, stations):
+def open_section(report: Report, stations: Stations) -> Section:
     """The cards that were inside at the end."""
     zone = report.tally.zone
     rows = [(str(row.card), stations.where(row, zone), Pence(-row.change), becomes(after, zone, stations))
@@ -235,7 +244,7 @@ def open_section(report, stations):
             folded(rows, table(["Card", "Touch in", "Entry charge", "Then"], rows[:SHOWN]) + tail))
 
 
-def silent_section(report):
+def silent_section(report: Report) -> Section | None:
     """The gates that had a touch in the week before, and none on the day."""
     zone = report.tally.zone
     rows = [(str(gate), shown(row.moment, zone, "%a %Y-%m-%d %H:%M:%S"), str(row.number))
@@ -246,7 +255,7 @@ def silent_section(report):
             table(["Gate", "Last touch", "Number"], rows))
 
 
-def revisions_section(tally):
+def revisions_section(tally: Tally) -> Section:
     """The revisions of the day."""
     rows = [(str(row.place), row.day, row.station, row.verdict) for row in tally.revisions]
     return "Revisions of the fares", "They are of no card, and stand under the day from which they count.", \
@@ -271,7 +280,7 @@ footer { overflow-wrap: anywhere; } @media print { details > * { display: block;
 @media (max-width: 40rem) { td:not(.n) { white-space: normal; } }"""
 
 
-def sections(report, stations):
+def sections(report: Report, stations: Stations) -> str:
     """The parts of a page below its tiles."""
     tally, parts = report.tally, []
     if tally.touches_by_day:
@@ -285,7 +294,7 @@ def sections(report, stations):
                    for title, text, rest in filter(None, parts))
 
 
-def page(report, digest, name, stations):
+def page(report: Report, digest: str, name: str, stations: Stations) -> str:
     """The whole page."""
     tally, day = report.tally, report.day
     days = [day] if day else tally.days()

@@ -8,6 +8,7 @@ import datetime
 import json
 import pathlib
 import re
+from typing import NotRequired, TypedDict
 
 import old_server
 import serving
@@ -21,19 +22,35 @@ TIMERS = pathlib.Path("/etc/systemd/system/timers.target.wants")
 NAME = re.compile(r"\w[\w.+-]*")
 
 
-def percent(text):
+class Plan(TypedDict):
+    """What a change to a new journal was begun with: the file plan.json of its folder."""
+    old: str
+    capacity: int
+    cards: int
+    table: str | None
+    gate: int
+    first: int
+    journal: str | None
+    unattended: NotRequired[bool]
+    # When it was begun, the new journal's name, and the arguments of `serve` until then.
+    moment: str
+    new: str
+    words: str
+
+
+def percent(text: str) -> int:
     """A number of the command line from 1 to 99, with or without a sign."""
     if not re.fullmatch("[1-9][0-9]?%?", text, re.ASCII):
         raise argparse.ArgumentTypeError(f"'{text}' is no whole number from 1 to 99, as 90 or 90%")
     return int(text.rstrip("%"))
 
 
-def is_enabled(name, timers=TIMERS):
+def is_enabled(name: str | None, timers: pathlib.Path = TIMERS) -> bool:
     """Whether the timer of a server is enabled."""
     return (timers / f"bovtrila-next-journal{f'@{name}' if name else ''}.timer").is_symlink()
 
 
-def name_after(folder, old, now):
+def name_after(folder: pathlib.Path, old: pathlib.Path, now: datetime.datetime) -> str:
     """The name of the journal that follows: the old one's with the day in the place of its own, and a number if there
     is such a file."""
     stem, suffix = re.sub(r"-\d{8}(-\d+)?$", "", old.stem), old.suffix
@@ -41,26 +58,27 @@ def name_after(folder, old, now):
     return next(name for name in names if not (folder / name).exists())
 
 
-def plan_of(folder):
+def plan_of(folder: pathlib.Path) -> Plan | None:
     """What work in this folder was begun with, if there is any."""
     try:
-        return json.loads((folder / "plan.json").read_text())
+        plan: Plan = json.loads((folder / "plan.json").read_text())
     except FileNotFoundError:
         return None
+    return plan
 
 
-def unfinished(folder, journal):
+def unfinished(folder: pathlib.Path, journal: str) -> str | None:
     """The old journal of an unattended run that was cut off after the settings had named this new one, if there is
     any."""
     for file in sorted(folder.glob("after-*/plan.json")):
         plan = plan_of(file.parent)
         is_finished = (file.parent / "page").exists() and not (file.parent / old_server.STOPPED).exists()
-        if plan["new"] == journal and plan.get("unattended") and not is_finished:
+        if plan and plan["new"] == journal and plan.get("unattended") and not is_finished:
             return plan["old"]
     return None
 
 
-def is_due(asked):
+def is_due(asked: argparse.Namespace) -> bool:
     """Whether the journal of the settings is full enough, or an unattended run was cut off: `asked` then names the old
     journal."""
     words = settings.words_of(asked.config)
@@ -81,7 +99,7 @@ def is_due(asked):
     return False
 
 
-def clear(asked, folder):
+def clear(asked: argparse.Namespace, folder: pathlib.Path) -> None:
     """Removes what an unattended run has left that failed or was cut off before the settings named its new journal. A
     server that it left stopped is started first."""
     plan, words = plan_of(folder), settings.words_of(asked.config)
@@ -108,7 +126,7 @@ def clear(asked, folder):
     (folder / "plan.json").unlink()
 
 
-def note_failure(folder, text):
+def note_failure(folder: pathlib.Path, text: str) -> None:
     """Writes down that an unattended run has failed. A disk without room may still take the name of a file."""
     now = datetime.datetime.now(datetime.timezone.utc)
     with contextlib.suppress(OSError):
@@ -116,5 +134,5 @@ def note_failure(folder, text):
         (folder / FAILED).write_text(f"{now:%Y-%m-%dT%H:%M:%SZ} {text}\n")
 
 
-def forget_failure(folder):
+def forget_failure(folder: pathlib.Path) -> None:
     (folder / FAILED).unlink(missing_ok=True)

@@ -1,6 +1,7 @@
 # SPDX-License-Identifier: Apache-2.0
 """The changes that a revision of the fares will make, as text, and the question whether to send it: for scripts/gate
 --revise."""
+import argparse
 import datetime
 import pathlib
 import sys
@@ -15,7 +16,7 @@ FAR = 90
 MAY, MAY_NOT = "may revise", "may not revise: "
 
 
-def add_options(parser):
+def add_options(parser: argparse.ArgumentParser) -> None:
     """The options of scripts/gate that go with --revise."""
     parser.add_argument("--against", metavar="FILE",
                         help="the fare table in force before the revision: show what changes")
@@ -25,7 +26,7 @@ def add_options(parser):
     parser.add_argument("--far", action="store_true", help=f"send it even if its day is more than {FAR} days ahead")
 
 
-def digest_of(path):
+def digest_of(path: str | pathlib.Path) -> str:
     """The digest of the fare table in a file, by which a revision names it."""
     try:
         return model.Table(pathlib.Path(path).read_bytes().decode()).digest.hex()
@@ -35,7 +36,7 @@ def digest_of(path):
         raise Wrong(f"{path}: this is no fare table ({error}); bovtrila check says what is wrong") from None
 
 
-def changes(program, old, new):
+def changes(program: str, old: str | pathlib.Path, new: str | pathlib.Path) -> list[str]:
     """What a table changes of the one before it, a line each, as the program's `check --against` prints it. Fails where
     fares may not be revised to it. A table that is in force already changes nothing, and may be named again."""
     status, out, err = serving.run([program, "check", "--against", old, new])
@@ -47,7 +48,7 @@ def changes(program, old, new):
     raise Wrong(f"{new} can't be compared with {old}; correct the table that has the fault:\n{err or out}".rstrip())
 
 
-def far_off(days):
+def far_off(days: int) -> str:
     """How far a day is off, in words."""
     if days == 0:
         return "today"
@@ -55,13 +56,13 @@ def far_off(days):
     return f"{abs(days):,} day{'s' if abs(days) > 1 else ''} {ahead}"
 
 
-def heading(asked, today):
+def heading(asked: argparse.Namespace, today: datetime.date) -> str:
     """The line that says from when on which table counts."""
     return (f"From {asked.first:%A} {asked.first} at 04:30 on, {far_off((asked.first - today).days)}, the fare table "
             f"{asked.revise} counts:")
 
 
-def preview(asked, today):
+def preview(asked: argparse.Namespace, today: datetime.date) -> list[str]:
     """The lines that say what the revision that is asked for will do."""
     digest = digest_of(asked.revise)
     lines = [heading(asked, today), f"  digest {digest}"]
@@ -73,14 +74,14 @@ def preview(asked, today):
     return lines + [f"  {line}" for line in found or [f"nothing changes against {asked.against}: {same}"]]
 
 
-def agree(asked):
+def agree(asked: argparse.Namespace) -> None:
     """Shows what a revision will change, and asks whether it shall be sent. Ends with an error where it shan't."""
     today = datetime.date.today()
     print("\n".join(preview(asked, today)), file=sys.stderr, flush=True)
     ask(asked, today)
 
 
-def ask(asked, today):
+def ask(asked: argparse.Namespace, today: datetime.date) -> None:
     """Asks whether a revision that was shown shall be sent. Ends with an error where it shan't."""
     days = (asked.first - today).days
     if days > FAR and not asked.far:

@@ -10,12 +10,18 @@ import hashlib
 import io
 import json
 import os
+import pathlib
 import shutil
+from collections.abc import Iterable, Iterator, Mapping, Sequence
+from typing import TYPE_CHECKING, TypedDict, TypeVar
 
 import model
 import serving
 import wire
 from wire import Wrong
+
+if TYPE_CHECKING:
+    import handover_steps
 
 # How many cards of a kind the page names, and how many requests wait for their answers at once.
 MOST, WINDOW = 20, 64
@@ -26,10 +32,22 @@ INSIDE = ("the journey isn't carried, but the balance after its entry charge is.
           "charged a maximum beside it: pay back what is over the fare")
 DAYS = ("the days under way: what was charged on them doesn't count towards caps in the new journal, and no journey "
         "goes on at an interchange")
+# What a piece of work is begun with, by its names.
+Plan = TypeVar("Plan", bound=Mapping[str, object])
+# Of each card its balance in pence, and whether it is inside.
+Held = dict[int, tuple[int, bool]]
+
+
+class Tables(TypedDict):
+    """The fare table in force, by its name, the later ones with the days from which they count, and the balance limit
+    in pence."""
+    now: str
+    later: list[tuple[str, str]]
+    limit: int
 
 
 @contextlib.contextmanager
-def at_work(folder, owner):
+def at_work(folder: pathlib.Path, owner: serving.Owner) -> Iterator[pathlib.Path]:
     """The folder of a piece of work, made where it isn't there, in which no other run is at work."""
     if owner.make(folder):
         serving.sync(folder.parent)
@@ -49,26 +67,26 @@ def at_work(folder, owner):
 class Work:
     """The folder of a handover. Each file in it is written whole; what is there was done and checked."""
 
-    def __init__(self, folder, owner):
+    def __init__(self, folder: pathlib.Path, owner: serving.Owner) -> None:
         self.folder, self.owner = folder, owner
 
-    def __truediv__(self, name):
+    def __truediv__(self, name: str) -> pathlib.Path:
         return self.folder / name
 
-    def has(self, *names):
+    def has(self, *names: str) -> bool:
         return all((self.folder / name).exists() for name in names)
 
-    def read(self, name):
+    def read(self, name: str) -> str:
         return (self.folder / name).read_text()
 
-    def write(self, name, content):
+    def write(self, name: str, content: str) -> None:
         serving.write(self.folder / name, content, 0o640, self.owner.ids)
 
-    def plan(self, asked):
+    def plan(self, asked: Plan) -> Plan:
         """What was asked for when it was begun, which has to be what is asked for now."""
         if not self.has("plan.json"):
             self.write("plan.json", json.dumps(asked, indent=1) + "\n")
-        plan = json.loads(self.read("plan.json"))
+        plan: Plan = json.loads(self.read("plan.json"))
         for name, value in asked.items():
             if plan.get(name) != value and name not in ("unattended", "moment", "new", "words"):
                 raise Wrong(f"{self.folder} was begun with {name} {plan.get(name)}, not {value}: give the same words, "
@@ -76,7 +94,7 @@ class Work:
         return plan
 
 
-def copy(old, new, owner):
+def copy(old: pathlib.Path, new: pathlib.Path, owner: serving.Owner) -> None:
     """Copies a file whole, and compares the two."""
     beside = new.with_name(new.name + ".new")
     shutil.copyfile(old, beside)
@@ -92,9 +110,9 @@ def copy(old, new, owner):
     serving.sync(new.parent)
 
 
-def sums_of(text):
+def sums_of(text: str) -> dict[str, int]:
     """The numbers behind the names of lines as `cards 392`."""
-    found = {}
+    found: dict[str, int] = {}
     for line in text.splitlines():
         name, _, value = line.partition(" ")
         if value.lstrip("-").isdecimal():
@@ -102,18 +120,18 @@ def sums_of(text):
     return found
 
 
-def balances_of(text):
+def balances_of(text: str) -> Held:
     """What each card of a table of `balances` holds, and whether it is inside."""
     rows = csv.DictReader(io.StringIO(text, newline=""))
     return {int(row["card"]): (int(row["balance"]), row["state"] == "inside") for row in rows}
 
 
-def carried_of(balance, limit):
+def carried_of(balance: int, limit: int) -> int:
     """How much of a balance is carried: none of a debt, and nothing above the limit."""
     return min(max(balance, 0), limit)
 
 
-def tables_of(lines, tables, moment):
+def tables_of(lines: Iterable[str], tables: Sequence[tuple[str, pathlib.Path]], moment: int) -> Tables:
     """Which table is in force at a moment, and which come later with the days from which they count, by the rows of a
     history. The tables are pairs of a name and a path, the first one first."""
     read = {name: wire.table_of(path) for name, path in tables}
@@ -121,7 +139,7 @@ def tables_of(lines, tables, moment):
     first = read[tables[0][0]]
     # The civil time is that of the last table that was read: all tables of a station have one zone.
     today = datetime.date(1970, 1, 1) + datetime.timedelta(model.Schedule(first).stamp(moment).day)
-    now, later = names[first.digest.hex()], []
+    now, later = names[first.digest.hex()], list[tuple[str, str]]()
     for line in lines:
         if ",revision," in line and ",Revised," in line:
             _, _, day, *_, digest, _, _, _, _ = line.split(",")
@@ -135,7 +153,7 @@ def tables_of(lines, tables, moment):
     return {"now": now, "later": later, "limit": read[now].table["balance_limit"]}
 
 
-def check_printed(sums, table):
+def check_printed(sums: str, table: str) -> None:
     """Compares the sums that `balances` prints with those of its lines."""
     rows, said = list(csv.DictReader(io.StringIO(table, newline=""))), sums_of(sums)
     found = {"cards": len(rows), **{name: sum(int(row[name]) for row in rows) for name in ("balance", "paid_in", "charged")}}
@@ -144,7 +162,7 @@ def check_printed(sums, table):
             raise Wrong(f"balances: {name} is {said.get(name)}, and that of its lines {value}")
 
 
-def check_sums(old, sums):
+def check_sums(old: Held, sums: dict[str, int]) -> None:
     """Compares the sums of the requests with those of the old journal's balances."""
     total = sum(pence for pence, _ in old.values())
     if sums["balances"] != total or sums["carried"] + sums["left"] - sums["owed"] != total:
@@ -152,7 +170,7 @@ def check_sums(old, sums):
                     f"{sums['balances']}, leave {sums['left']}, and drop debts of {sums['owed']}")
 
 
-def revision(table, day, gate):
+def revision(table: pathlib.Path, day: str, gate: int) -> bytes:
     """The request that revises fares to a table from a day on, with the bytes that `scripts/gate --revise` sends. The day
     is a date, or a number where the calendar has none."""
     first = int(day) if day.lstrip("-").isdecimal() else model.days(datetime.date.fromisoformat(day))
@@ -160,7 +178,7 @@ def revision(table, day, gate):
     return model.touch(model.REVISE, gate, first, 0, wire.table_of(table).digest, first, moment)
 
 
-def differences(old, new, limit):
+def differences(old: Held, new: Held, limit: int) -> Iterator[str]:
     """What is wrong with the cards of the new journal, as sentences."""
     for card in sorted(old.keys() | new.keys()):
         if card not in new:
@@ -171,10 +189,10 @@ def differences(old, new, limit):
             yield f"card {card} held {old[card][0]}, and holds {new[card][0]} in the new journal"
 
 
-def answered(line, requests):
+def answered(line: wire.Connection, requests: Sequence[bytes]) -> Iterator[str]:
     """The line of each answer that comes over a connection, once it is found to be the right one: each card's first
     request issues it, and each top-up adds to what it has."""
-    sent, paid = 0, {}
+    sent, paid = 0, dict[int, int]()
     for place, request in enumerate(requests):
         if sent <= place:
             line.send(*requests[sent : sent + WINDOW])
@@ -191,7 +209,7 @@ def answered(line, requests):
         yield f"{answer.hex()}  {wire.in_words(request, answer)}\n"
 
 
-def rows(name, why, cards):
+def rows(name: str, why: str, cards: Sequence[tuple[int, int]]) -> Iterator[str]:
     """The lines of the page on one kind of what isn't carried."""
     if not cards:
         return
@@ -204,7 +222,7 @@ def rows(name, why, cards):
         yield f"          and {len(cards) - MOST} more: the file `left` has them all"
 
 
-def not_carried(old, limit, tables, send, is_sent=False):
+def not_carried(old: Held, limit: int, tables: Tables, send: str, is_sent: bool = False) -> Iterator[str]:
     """The lines of the page on what isn't carried, and why. Revisions to come may be sent already."""
     held = [(card, *what) for card, what in sorted(old.items())]
     yield from rows("owed", OWED, [(card, -pence) for card, pence, _ in held if pence < 0])
@@ -216,7 +234,7 @@ def not_carried(old, limit, tables, send, is_sent=False):
         yield f"revision  to {name} from {day} on: {said}"
 
 
-def page(handover, send):
+def page(handover: "handover_steps.Handover", send: str) -> str:
     """The page at the end: what was carried, what wasn't and why."""
     plan, count, old = handover.plan, len(handover.lines), handover.old.name
     seal, limit = handover.work.read("seal").split(), handover.found["limit"]

@@ -1,12 +1,15 @@
 # SPDX-License-Identifier: Apache-2.0
 """The steps of scripts/next-journal, from an old journal to the one that follows it, and the way back where one fails."""
+import argparse
 import contextlib
 import datetime
 import json
 import os
+import pathlib
 import shlex
 import subprocess
 import time
+from collections.abc import Callable, Iterator, Sequence
 
 import due
 import handover
@@ -18,11 +21,11 @@ import wire
 from wire import Wrong
 
 
-def told(text):
+def told(text: str) -> None:
     print(text, flush=True)
 
 
-def wrong_in_words(error, folder):
+def wrong_in_words(error: BaseException, folder: pathlib.Path) -> str:
     """A fault in one line."""
     said = f"{error.filename or folder}: {error.strerror or error}" if isinstance(error, OSError) else str(error)
     return "; ".join(line.strip() for line in said.splitlines() if line.strip())
@@ -31,10 +34,11 @@ def wrong_in_words(error, folder):
 class Handover:
     """The steps, from an old journal to the one that follows it."""
 
-    def __init__(self, asked, folder):
+    def __init__(self, asked: argparse.Namespace, folder: pathlib.Path) -> None:
         self.asked, self.program = asked, serving.program(asked.program)
         self.owner = serving.Owner(asked.user)
-        self.folder, self.old = asked.folder, asked.folder / asked.old
+        self.folder: pathlib.Path = asked.folder
+        self.old = self.folder / asked.old
         self.work = handover.Work(folder, self.owner)
         if not self.old.is_file():
             raise Wrong(f"{self.old}: no such file; name the journal by its name in {self.folder}")
@@ -47,7 +51,7 @@ class Handover:
         self.server = old_server.OldServer(asked, self.work, self.old, self.before)
         self.is_unattended, self.is_placing = asked.when_above is not None, False
 
-    def chosen(self, capacity, cards):
+    def chosen(self, capacity: int, cards: int) -> due.Plan:
         """What was asked for, which a later run goes on with."""
         asked, words = self.asked, settings.words_of(self.asked.config)
         now = datetime.datetime.now(datetime.timezone.utc)
@@ -66,7 +70,7 @@ class Handover:
                 "unattended": asked.when_above is not None, "moment": f"{now:%Y-%m-%dT%H:%M:%SZ}", "new": new,
                 "words": str(words)}
 
-    def verified(self, journal, *more):
+    def verified(self, journal: pathlib.Path, *more: str) -> dict[str, str]:
         """What `verify` says of the old journal, or of its copy, by its lines' names."""
         words = [self.program, "verify", "--journal", journal, "--table", self.before["table"], *more,
                  *self.before.revised]
@@ -80,7 +84,7 @@ class Handover:
 
     # The steps, in their order.
 
-    def gates(self):
+    def gates(self) -> str:
         """Sees that no touch comes. Unattended, what follows is worked out meanwhile, so that gates wait for less."""
         if not self.is_unattended:
             return self.server.look()
@@ -93,14 +97,14 @@ class Handover:
                 return said
             self.server.check_time(limit)
 
-    def stop(self):
+    def stop(self) -> str:
         self.server.stop()
         if not self.work.has("seal"):
             handover.copy(self.old, self.work / "old.journal", self.owner)
             self.work.write("seal", "sealed " + self.verified(self.work / "old.journal", "--seal")["sealed"] + "\n")
         return self.sealed()
 
-    def balances(self, journal=None):
+    def balances(self, journal: pathlib.Path | None = None) -> str:
         """Writes down what each card holds, and which table counts."""
         journal = journal or self.work / "old.journal"
         if not self.work.has("old.csv", "tables.json"):
@@ -111,26 +115,27 @@ class Handover:
             handover.check_printed(err, out)
             self.work.write("old.csv", out)
             self.work.write("tables.json", json.dumps(self.tables(words)) + "\n")
-        self.found = json.loads(self.work.read("tables.json"))
+        self.found: handover.Tables = json.loads(self.work.read("tables.json"))
         self.held = handover.balances_of(self.work.read("old.csv"))
         return (f"{len(self.held)} cards hold {sum(pence for pence, _ in self.held.values())} pence; the fare table is "
                 f"{self.found['now']}, its balance limit {self.found['limit']}")
 
-    def tables(self, words):
+    def tables(self, words: Sequence[object]) -> handover.Tables:
         """Which table counts at the moment of the requests, by the history."""
         moment = int(datetime.datetime.fromisoformat(self.plan["moment"].replace("Z", "+00:00")).timestamp())
         named = [(name, self.folder / name) for name in self.before.tables()]
         with subprocess.Popen([self.program, "history", *map(str, words)], cwd=self.folder, text=True,
                               stdout=subprocess.PIPE) as history:
+            assert history.stdout  # it is a pipe
             found = handover.tables_of(history.stdout, named, moment)
         if history.returncode:
             raise Wrong(f"history ended with status {history.returncode}")
         if self.plan["table"]:
-            found.update(now=self.plan["table"],
-                         limit=wire.table_of(self.folder / self.plan["table"]).table["balance_limit"])
+            found["now"] = self.plan["table"]
+            found["limit"] = wire.table_of(self.folder / self.plan["table"]).table["balance_limit"]
         return found
 
-    def requests(self):
+    def requests(self) -> str:
         if not self.work.has("lines", "left"):
             words = [serving.HERE / "carry-over", self.work / "old.csv", "--moment", self.plan["moment"], "--limit",
                      self.found["limit"], "--gate", self.plan["gate"], "--first", self.plan["first"]]
@@ -154,7 +159,7 @@ class Handover:
                         "so each run would begin another one: name a higher --capacity")
         return f"{len(self.lines)} requests carry {self.sums['carried']} pence"
 
-    def foresee(self):
+    def foresee(self) -> int | None:
         """Does steps 3 and 4 while the old server runs, and finds what would hinder a later one: for how many touches.
         They are done again if a touch comes meanwhile."""
         for name in ("old.csv", "tables.json", "lines", "left"):
@@ -169,10 +174,10 @@ class Handover:
         self.requests()
         return touches if old_server.touches_of(self.old)[0] == touches else None
 
-    def new_size(self):
+    def new_size(self) -> int:
         return model.HEADER + model.SLOT * self.plan["capacity"] + 1
 
-    def following(self):
+    def following(self) -> settings.Words:
         """The words of the server from now on."""
         words = self.before.copy()
         words.options.update({"--table": self.found["now"], "--journal": self.plan["new"],
@@ -181,7 +186,7 @@ class Handover:
         return words
 
     @contextlib.contextmanager
-    def served(self):
+    def served(self) -> Iterator[serving.Started]:
         """A server of the new journal on a port that no gate knows. A journal whose making was cut short is made
         anew."""
         words = self.following()
@@ -199,14 +204,14 @@ class Handover:
         with server:
             yield server
 
-    def make(self):
+    def make(self) -> str:
         if not self.work.has("answers"):
             with self.served():
                 pass
         plan = self.plan
         return f"its first table is {self.found['now']}, for {plan['cards']} cards and {plan['capacity']} touches"
 
-    def send(self):
+    def send(self) -> str:
         """Sends the requests. One that was sent before has its first answer."""
         if not self.work.has("answers"):
             with self.served() as server, wire.Connection(server.address, self.asked.patience) as line:
@@ -214,7 +219,7 @@ class Handover:
             self.work.write("answers", "".join(answers))
         return f"each of the {self.sent} requests was answered as it has to be"
 
-    def compare(self):
+    def compare(self) -> str:
         if not self.work.has("compared"):
             words = ["--table", self.found["now"], "--journal", self.work / "new.journal", *self.following().revised]
             status, out, err = serving.run([self.program, "balances", *words], cwd=self.folder)
@@ -232,7 +237,7 @@ class Handover:
             self.work.write("compared", f"cards {len(new)}\nbalance {total}\n")
         return f"each of {len(self.held)} cards holds what was carried: {self.sums['carried']} pence"
 
-    def start(self):
+    def start(self) -> str:
         """Lets the server's settings name the new journal, and starts it."""
         words, self.is_placing = self.following(), True
         if not self.new.exists():
@@ -255,14 +260,15 @@ class Handover:
             raise Wrong(f"the server at {words['listen']} has {front} touches, and {self.sent} were sent: is it another's?")
         return f"the server at {words['listen']} has {front} touches"
 
-    STEPS = (("the gates", gates), ("the old server", stop), ("the balances", balances), ("the requests", requests),
-             ("the new journal", make), ("sending", send), ("comparing", compare), ("the server", start))
+    STEPS: Sequence[tuple[str, Callable[["Handover"], str]]] = (
+        ("the gates", gates), ("the old server", stop), ("the balances", balances), ("the requests", requests),
+        ("the new journal", make), ("sending", send), ("comparing", compare), ("the server", start))
 
-    def is_switched(self):
+    def is_switched(self) -> bool:
         """Whether the server's settings name the new journal."""
         return self.folder / settings.words_of(self.asked.config)["journal"] == self.new
 
-    def run(self):
+    def run(self) -> None:
         """Does each step that isn't done yet. If one fails, the old server runs again."""
         try:
             self.go_on()
@@ -273,7 +279,7 @@ class Handover:
             raise
         self.server.forget()
 
-    def put_back(self):
+    def put_back(self) -> str:
         """Lets the old server run again, if this run or an earlier one has stopped it: what was done, in words. By hand
         nothing is stopped or started here."""
         if not (self.asked.stop and self.asked.start):
@@ -286,7 +292,7 @@ class Handover:
         except (Wrong, OSError) as error:
             return f"and no server was started again, by this: {wrong_in_words(error, self.folder)}: start it by hand"
 
-    def go_on(self):
+    def go_on(self) -> None:
         """Does each step that isn't done yet, and checks those that are. Once the server's settings name the new journal,
         it may run and have touches of gates: then the old one is no server's any more."""
         was_switched = self.is_switched()
@@ -302,7 +308,7 @@ class Handover:
         self.work.write("page", handover.page(self, send))
         told("\n" + self.work.read("page").rstrip("\n"))
 
-    def sealed(self):
+    def sealed(self) -> str:
         """Sees that the old journal is still the one that was sealed, and gives the touches of its seal."""
         seal = self.work.read("seal").split()
         found = self.verified(self.old, "--sealed", *seal[1:])
@@ -311,7 +317,7 @@ class Handover:
                         f"with it since. Remove {self.work.folder} and {self.new}, and begin again")
         return f"{self.old.name} has {seal[1]} touches; its copy is {self.work / 'old.journal'}"
 
-    def rehearse(self):
+    def rehearse(self) -> None:
         """Says what each step would do, by reading alone."""
         touches, balances = self.verified(self.old)["touches"], self.balances(self.old)
         requests = self.requests()

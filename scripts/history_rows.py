@@ -1,13 +1,14 @@
 # SPDX-License-Identifier: Apache-2.0
 """The rows of a history in CSV, as `bovtrila history` writes them, for the scripts that read them: each is held against
 those before it. A file saved by a spreadsheet, with quotes around its fields, is read too."""
-import collections
 import csv
 import datetime
 import os
 import re
 import sys
 import time
+from collections.abc import Iterator
+from typing import NamedTuple, Protocol
 
 HEADING = "place,moment,day,gate,number,card,act,station,pence,verdict,change,balance"
 NATURAL, WHOLE, DATE = "0|[1-9][0-9]{0,9}", "0|-?[1-9][0-9]{0,17}", "[0-9]{4}-[0-9]{2}-[0-9]{2}"
@@ -35,20 +36,44 @@ FIELDS = {"place": NATURAL, "moment": f"{DATE}T[0-9]{{2}}:[0-9]{{2}}:[0-9]{{2}}Z
           "card": f"{NATURAL}|", "act": "|".join(FILLED), "station": f"{NATURAL}|[0-9a-f]{{64}}|",
           "pence": f"{NATURAL}|", "verdict": "[A-Za-z]+", "change": WHOLE, "balance": WHOLE}
 ROW = re.compile(",".join(f"({form})" for form in FIELDS.values()))
-Row = collections.namedtuple("Row", FIELDS)
+
+
+class Row(NamedTuple):
+    """A row, by FIELDS: its moment in seconds since 1970-01-01 00:00:00 UTC, its change and its balance in pence."""
+    place: int
+    moment: int
+    day: str
+    gate: int
+    number: int
+    card: int | None
+    act: str
+    station: str
+    pence: str
+    verdict: str
+    change: int
+    balance: int
+
+
 # The verdicts of a touch of a card that was inside.
 ENDS_OPEN = ("EnteredOverOpen", "Exited", "ExitedLate")
 # How many seconds pass between two lines on how far the reading is.
 TOLD = 2
 
-Link = collections.namedtuple("Link", "balance gaps entry")
+# A card's balance behind its last row, the gaps before that row, and the card's open touch in.
+Link = NamedTuple("Link", [("balance", int), ("gaps", int), ("entry", Row | None)])
 
 
 class Wrong(Exception):
     """What was given can't be right. The text says what, and where."""
 
 
-def unquoted(text):
+class Digest(Protocol):
+    """A digest of hashlib, which takes the bytes that are read."""
+
+    def update(self, content: bytes, /) -> object: ...
+
+
+def unquoted(text: str) -> str:
     """A line without the quotes of its fields."""
     try:
         return ",".join(next(csv.reader([text], strict=True)))
@@ -56,7 +81,7 @@ def unquoted(text):
         raise Wrong("its quotes don't go together") from None
 
 
-def row_of(text):
+def row_of(text: str) -> Row:
     """The row that a line has; its moment in seconds since 1970-01-01 00:00:00 UTC. A revision has no card."""
     match = ROW.fullmatch(text)
     if not match:
@@ -79,7 +104,7 @@ def row_of(text):
     return row
 
 
-def check_row(row):
+def check_row(row: Row) -> None:
     """Whether the fields of a row go together."""
     is_filled = row.card is not None, row.station != "", row.pence != ""
     if is_filled != FILLED[row.act] or (len(row.station) == 64) != (row.act == "revision"):
@@ -98,7 +123,7 @@ def check_row(row):
         raise Wrong(f"a change of {row.change} doesn't go with {row.verdict}")
 
 
-def lines_of(path, digest):
+def lines_of(path: str, digest: Digest) -> Iterator[tuple[int, str]]:
     """The lines of a file, numbered from 1, without their ends. The digest takes their bytes."""
     try:
         with open(0 if path == "-" else path, "rb") as file:
@@ -118,13 +143,13 @@ def lines_of(path, digest):
 class Progress:
     """Says on standard error, every few seconds, how far the reading of a file is."""
 
-    def __init__(self, path, script):
+    def __init__(self, path: str, script: str) -> None:
         self.script = script
         self.size = os.path.getsize(path) if path != "-" and os.path.isfile(path) else 0
         self.name = "standard input" if path == "-" else os.path.basename(path)
         self.read, self.told = 0, time.monotonic()
 
-    def add(self, line, text):
+    def add(self, line: int, text: str) -> None:
         """Counts a line."""
         self.read += len(text) + 2
         if line % 1000 == 0 and time.monotonic() - self.told >= TOLD:
@@ -137,11 +162,12 @@ class Chain:
     """What the rows of a file so far say of each card: its balance, and its last touch in that is open. Of a part of a
     history rows may be left out: there a touch in before the gap counts only if the balances still agree."""
 
-    def __init__(self, is_part=False, begins=True):
+    def __init__(self, is_part: bool = False, begins: bool = True) -> None:
         """Of a whole history, or of one that may begin later."""
-        self.links, self.next, self.gaps, self.is_part, self.begins = {}, 0, 0, is_part, begins
+        self.links: dict[int | None, Link] = {}
+        self.next, self.gaps, self.is_part, self.begins = 0, 0, is_part, begins
 
-    def follow(self, place):
+    def follow(self, place: int) -> None:
         """Counts a gap before this place, or fails where there may be none."""
         if place < self.next:
             raise Wrong(f"place {place} stands behind place {self.next - 1}")
@@ -154,7 +180,7 @@ class Chain:
             raise Wrong(f"{lost} missing before place {place}; {how} from which rows were left out on purpose --part")
         self.gaps += 1
 
-    def add(self, row):
+    def add(self, row: Row) -> Row | None:
         """The card's open touch in before this row, or None where there is none in the file."""
         self.follow(row.place)
         self.next = row.place + 1
@@ -174,7 +200,7 @@ class Chain:
         return entry
 
 
-def rows_of(path, chain, digest, script):
+def rows_of(path: str, chain: Chain, digest: Digest, script: str) -> Iterator[tuple[Row, Row | None]]:
     """The rows of a file, each with its card's open touch in before it, as the chain has them. The digest takes the
     file's bytes, and on a long file the script of this name says how far it is."""
     progress, line = Progress(path, script), 0

@@ -3,6 +3,7 @@
 import functools
 import pathlib
 import re
+from collections.abc import Callable, Iterator
 
 TOP = pathlib.Path(__file__).resolve().parent.parent
 # The Debian packages, each with the list of its files.
@@ -12,8 +13,8 @@ SHARE = "/usr/share/bovtrila"
 # The folders of commands, and what precedes a command's name after `bovtrila-`.
 FOLDERS = {TOP / "scripts": "", TOP / "network": "network-"}
 # The scripts by which root runs a station's machine.
-ADMINISTRATION = {"authority", "exporter", "keep-copies", "new-fares", "next-journal", "receive-copy", "restore", "send-copy",
-                  "setup", "start"}
+ADMINISTRATION = {"authority", "exporter", "keep-copies", "new-fares", "next-journal", "receive-copy", "restore",
+                  "send-copy", "setup", "start"}
 # What a page says of the repository alone stands between two comments.
 OF_REPOSITORY = re.compile(r"^<!-- of the repository -->\n.*?^<!-- -->\n", re.M | re.S)
 # A path of the repository, alone or in a span of code; a block of code is passed over.
@@ -23,7 +24,7 @@ NAMED = re.compile(rf"^```.*?^```$|`[^`\n]*?(?P<code>{PATH})[^`\n]*`|(?P<bare>{P
 ALIAS = "$ alias bovtrila=scripts/bovtrila\n"
 
 
-def rows(package=STATION):
+def rows(package: str = STATION) -> Iterator[tuple[pathlib.Path, str]]:
     """What a package has: a file of the repository, and its place where the package is installed."""
     for line in LISTS[package].read_text().splitlines():
         if line and not line.startswith("#"):
@@ -36,28 +37,28 @@ def rows(package=STATION):
                 yield file, place + file.name if place.endswith("/") else place
 
 
-def is_command(file):
+def is_command(file: pathlib.Path) -> bool:
     """Whether a file is a script that is called by its name, as bovtrila-NAME or bovtrila-network-NAME."""
     return file.parent in FOLDERS and bool(file.stat().st_mode & 0o100)
 
 
-def name_of(file):
+def name_of(file: pathlib.Path) -> str:
     """What follows `bovtrila-` in the name of a command."""
     return FOLDERS[file.parent] + file.name
 
 
-def commands(package=STATION):
+def commands(package: str = STATION) -> list[str]:
     """The names of a package's scripts that are called by their names, without `bovtrila-`."""
     return sorted(name_of(file) for file, _ in rows(package) if is_command(file))
 
 
-def section(name):
+def section(name: str) -> int:
     """The section of the manual in which a script has its page: 8 where root runs the machine by it, else 1."""
     return 8 if name in ADMINISTRATION else 1
 
 
 @functools.cache
-def called():
+def called() -> list[tuple[re.Pattern[str], str]]:
     """A pattern for the paths of each folder's commands, and the name that a command has where it is installed."""
     found = []
     for folder, prefix in FOLDERS.items():
@@ -69,18 +70,18 @@ def called():
 
 
 @functools.cache
-def pages():
+def pages() -> dict[str, str]:
     """The package of each page."""
     return {file.name: package for package in LISTS for file, _ in rows(package) if file.suffix == ".md"}
 
 
-def page_name(name, package):
+def page_name(name: str, package: str) -> str:
     """What a text of a package calls a page: by its path where another package has it."""
     other = pages().get(name, package)
     return name if other == package else f"/usr/share/doc/{other}/{name}"
 
 
-def names(text, package=STATION):
+def names(text: str, package: str = STATION) -> str:
     """A text in which the program, the scripts and the files have the names that they have where they are installed."""
     text = text.replace("scripts/bovtrila gate_send", "gate_send").replace("scripts/bovtrila", "bovtrila")
     for pattern, name in called():
@@ -92,13 +93,13 @@ def names(text, package=STATION):
     return re.sub(r"(?<![\w/])docs/(example\.toml|vectors[a-z-]*\.t)", rf"{SHARE}/docs/\1", text)
 
 
-def of_sources(text):
+def of_sources(text: str) -> str:
     """A text in which each file that isn't installed is named as one of the sources where it is first named, and others of
     packaging/ by their places."""
     places = {str(file.relative_to(TOP)): place for package in LISTS for file, place in rows(package)}
     seen = {"scripts/bovtrila"}
 
-    def named(match):
+    def named(match: re.Match[str]) -> str:
         path = (match["code"] or match["bare"] or "").rstrip("/")
         if path in places and path.startswith("packaging/"):
             return match[0].replace(path, f"/{places[path]}")
@@ -110,17 +111,17 @@ def of_sources(text):
     return NAMED.sub(named, text)
 
 
-def page(text, package=STATION):
+def page(text: str, package: str = STATION) -> str:
     """A page, without what it says of the repository alone."""
     return names(of_sources(OF_REPOSITORY.sub("", text).replace(ALIAS, "")), package)
 
 
-def script(text, package=STATION):
+def script(text: str, package: str = STATION) -> str:
     """A script, which Debian's Python runs: the modules of Debian's packages are that one's."""
     return names(re.sub(r"\A#!/usr/bin/env python3$", "#!/usr/bin/python3", text, flags=re.M), package)
 
 
-def change_of(file):
+def change_of(file: pathlib.Path) -> Callable[[str, str], str] | None:
     """What a file's text goes through where it is installed, with the name of its package; `None`: it stays as it is."""
     if file.suffix == ".md":
         return page

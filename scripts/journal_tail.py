@@ -1,7 +1,9 @@
 # SPDX-License-Identifier: Apache-2.0
 """How many touches a journal has, read on from where it was read to: for programs that look again and again."""
 import os
+import pathlib
 import struct
+from typing import BinaryIO
 
 import model
 from wire import Wrong
@@ -13,11 +15,13 @@ SLOTS = 4096
 class Tail:
     """A journal's file, read alone and without a lock."""
 
-    def __init__(self, path):
-        self.path, self.header, self.touches, self.capacity, self.written = path, None, 0, 0, 0.0
+    def __init__(self, path: str | pathlib.Path) -> None:
+        self.path, self.touches, self.capacity, self.written = path, 0, 0, 0.0
+        # The bytes of the header and the number of the file (inode) that were read last.
+        self.header = b"", 0
         self.slot = model.SLOT
 
-    def read(self, known=0):
+    def read(self, known: int = 0) -> None:
         """Reads what came since the last time, or since so many touches that are known to be there. A file that is another
         journal now is read from its beginning."""
         try:
@@ -35,11 +39,11 @@ class Tail:
         except OSError as error:
             raise Wrong(f"{self.path}: {error.strerror}") from None
 
-    def whole_size(self):
+    def whole_size(self) -> int:
         """How many bytes the file has once the journal is full: with a closed mark behind the last slot."""
         return model.HEADER + self.slot * self.capacity + 1
 
-    def go_on(self, file, size):
+    def go_on(self, file: BinaryIO, size: int) -> None:
         """Counts the slots with an open mark, up to the first closed one."""
         file.seek(model.HEADER + size * self.touches)
         while self.touches < self.capacity:

@@ -2,7 +2,10 @@
 """The content of a server's journal, which is read without a lock: its touches, each gate's last one, their pace, and the
 fare table in force. For scripts/status."""
 import datetime
+import pathlib
 import struct
+from collections.abc import Iterable
+from typing import Any
 
 import model
 import wire
@@ -18,15 +21,25 @@ TRAVEL = (model.ENTER, model.LEAVE)
 class Journal:
     """What a journal's file holds so far. It is read on from where it was read to."""
 
-    def __init__(self, path):
-        # How many touches there are, and of those of cards the moments, the last one, and each gate's last one.
-        self.path, self.header, self.touches, self.moments, self.last, self.gates = path, None, 0, [], None, {}
-        # The latest moment of a touch in or out, and that touch. Each revision has its place, and that moment before.
-        self.newest, self.latest, self.revisions = None, None, []
-        # The cards with a touch in: no other card is inside.
-        self.entered = set()
+    # Of its header: the bytes of a slot, how many touches it has room for, how many cards, and its first table.
+    slot: int
+    capacity: int
+    cards: int
+    digest: bytes
 
-    def read(self):
+    def __init__(self, path: str | pathlib.Path) -> None:
+        # How many touches there are, and of those of cards the moments, the last one, and each gate's last one.
+        self.path, self.touches, self.moments, self.gates = path, 0, list[int](), dict[bytes, bytes]()
+        self.header: bytes | None = None
+        self.last: bytes | None = None
+        # The latest moment of a touch in or out, and that touch. Each revision has its place, and that moment before.
+        self.newest: int | None = None
+        self.latest: bytes | None = None
+        self.revisions: list[tuple[int, bytes, int, int | None]] = []
+        # The cards with a touch in: no other card is inside.
+        self.entered: set[int] = set()
+
+    def read(self) -> None:
         """Reads what came since the last time."""
         try:
             with open(self.path, "rb") as file:
@@ -47,11 +60,11 @@ class Journal:
         except OSError as error:
             raise Wrong(f"{self.path}: {error.strerror}; name a journal that can be read") from None
 
-    def whole_size(self):
+    def whole_size(self) -> int:
         """How many bytes the file has once the journal is full: with a closed mark behind the last slot."""
         return model.HEADER + self.slot * self.capacity + 1
 
-    def take(self, slots, size):
+    def take(self, slots: bytes, size: int) -> bool:
         """Takes the touches of these slots: whether more may follow."""
         for start in range(0, len(slots) - size + 1, size):
             if slots[start] != model.MARK or self.touches == self.capacity:
@@ -63,7 +76,7 @@ class Journal:
             self.touches += 1
         return len(slots) == 4096 * size
 
-    def add(self, kind, body):
+    def add(self, kind: int, body: bytes) -> None:
         """Takes a touch, by its body."""
         place = MOMENTS[kind]
         moment = int.from_bytes(body[place : place + 4], "big")
@@ -79,18 +92,18 @@ class Journal:
             self.newest, self.latest = moment, body
 
 
-def told(body):
+def told(body: bytes) -> dict[str, Any]:
     """A touch of a journal by its fields."""
     frame = struct.pack(">H", wire.REQUESTS[body[0]]) + body[: wire.REQUESTS[body[0]]]
     fields = {name: value for name, value in wire.fields_of(frame).items() if name != "digest"}
     return {"kind": wire.KINDS[body[0]], **fields, "moment": utc(fields["moment"])}
 
 
-def utc(moment):
+def utc(moment: float) -> str:
     return f"{datetime.datetime.fromtimestamp(moment, datetime.timezone.utc):%Y-%m-%dT%H:%M:%SZ}"
 
 
-def date(day):
+def date(day: int) -> str:
     """A day by its date, or by its number where the calendar has none."""
     try:
         return (datetime.date(1970, 1, 1) + datetime.timedelta(day)).isoformat()
@@ -101,7 +114,7 @@ def date(day):
 class Tables:
     """The tables that are named, by their digests; the clock is that of the first."""
 
-    def __init__(self, paths):
+    def __init__(self, paths: Iterable[str | pathlib.Path]) -> None:
         tables = [(str(path), wire.table_of(path)) for path in paths]
         self.names = {table.digest: path for path, table in reversed(tables)}
         self.schedule = model.Schedule(tables[0][1]) if tables else None
@@ -109,17 +122,18 @@ class Tables:
             # The civil time is that of the last table that was read.
             wire.table_of(tables[0][0])
 
-    def day(self, moment):
+    def day(self, moment: float) -> int:
         """The fare day of a moment, by the first table's clock, or about that where no table is named."""
-        return self.schedule.stamp(moment).day if self.schedule else (moment - 16_200) // 86_400
+        return self.schedule.stamp(int(moment)).day if self.schedule else (int(moment) - 16_200) // 86_400
 
-    def table(self, digest, first=None):
+    def table(self, digest: bytes, first: int | None = None) -> dict[str, str | None]:
         return {"file": self.names.get(digest), "digest": digest.hex(), "from": None if first is None else date(first)}
 
 
-def revised(journal, tables, now, found):
+def revised(journal: Journal, tables: Tables, now: float, found: dict[str, Any]) -> None:
     """The table in force and the next ones, as far as the journal tells them."""
-    accepted, unsure = [(None, journal.digest)], []
+    accepted: list[tuple[int | None, bytes]] = [(None, journal.digest)]
+    unsure: list[int] = []
     for place, digest, day, newest in journal.revisions:
         # A touch in or out counts where it was accepted, and the journal alone doesn't tell that.
         reached = newest is not None and day <= max(tables.day(newest), tables.day(max(newest - 7200, 0)))
@@ -138,12 +152,12 @@ def revised(journal, tables, now, found):
                               "or out of its day or a later one stand before it. `bovtrila history` says")
     if journal.revisions and not tables.schedule:
         found["notes"].append("without --table fare days go by the clock of UTC")
-    if found["next"] and accepted[-1][0] - today > 366:
-        found["notes"].append(f"the last revision counts from {date(accepted[-1][0])}: none from an earlier day can be "
-                              "made")
+    last, _ = accepted[-1]
+    if found["next"] and last is not None and last - today > 366:
+        found["notes"].append(f"the last revision counts from {date(last)}: none from an earlier day can be made")
 
 
-def pace(journal, now, found):
+def pace(journal: Journal, now: float, found: dict[str, Any]) -> None:
     """How many touches a day there were in the last 7 days, and how long the room lasts at that pace."""
     past = [moment for moment in journal.moments if moment <= now + 3600]
     lately = sum(moment >= now - WEEK for moment in past)

@@ -7,8 +7,8 @@ import os
 import pathlib
 import shutil
 import socket
-import subprocess
 import tempfile
+from collections.abc import Iterator, Mapping
 
 import serving
 import settings
@@ -17,7 +17,8 @@ from wire import Wrong
 
 
 @contextlib.contextmanager
-def rehearsed(program, words, folder, owner, tables=()):
+def rehearsed(program: str, words: settings.Words, folder: pathlib.Path, owner: serving.Owner,
+              tables: Mapping[str, pathlib.Path] | None = None) -> Iterator[serving.Started]:
     """A server by these arguments, as its owner, while the block runs: `serving.Started`, and the folder of its copy.
 
     `tables` names files that aren't in the server's folder yet, by the names that they will have there. What the server
@@ -32,7 +33,7 @@ def rehearsed(program, words, folder, owner, tables=()):
             copy(journal, copied, owner)
         tried.options.update({"--journal": str(copied), "--listen": "127.0.0.1:0"})
         tried.flags = [flag for flag in words.flags if flag == "--strict"]
-        for name, path in dict(tables).items():
+        for name, path in (tables or {}).items():
             shutil.copyfile(path, room / name)
             owner.take(room / name, 0o640)
             tried.revised = [str(room / name) if one == name else one for one in tried.revised]
@@ -46,7 +47,7 @@ def rehearsed(program, words, folder, owner, tables=()):
         shutil.rmtree(room, ignore_errors=True)
 
 
-def copy(journal, copied, owner):
+def copy(journal: pathlib.Path, copied: pathlib.Path, owner: serving.Owner) -> None:
     """Copies a journal, as it is while a server may write it; what is zeros takes no room."""
     status, _, err = serving.run(["cp", "--sparse=always", journal, copied])
     if status:
@@ -55,7 +56,7 @@ def copy(journal, copied, owner):
 
 
 @contextlib.contextmanager
-def acting(owner):
+def acting(owner: serving.Owner) -> Iterator[None]:
     """What is done as the owner, where root starts this."""
     if owner.ids:
         os.seteuid(owner.ids[0])
@@ -66,7 +67,7 @@ def acting(owner):
             os.seteuid(0)
 
 
-def address_fault(words, journal, owner):
+def address_fault(words: settings.Words, journal: pathlib.Path, owner: serving.Owner) -> str | None:
     """Why the server can't listen at its address, or nothing. Its own running server may listen there."""
     host, port = wire.address(words["listen"])
     try:
@@ -81,7 +82,7 @@ def address_fault(words, journal, owner):
     return None
 
 
-def place_of(text, said, words):
+def place_of(text: str, said: str, words: settings.Words) -> int:
     """The line of the settings that a fault of a server is about, as far as its second line names a file of theirs."""
     for name, values in ((name, words.values(name)) for name in ("table", "journal", settings.REVISED)):
         for value in values:
@@ -90,7 +91,7 @@ def place_of(text, said, words):
     return 0
 
 
-def check(program, config, folder, owner):
+def check(program: str, config: pathlib.Path, folder: pathlib.Path, owner: serving.Owner) -> settings.Words:
     """Tries the settings of a server without serving: its arguments, once all of it is as it has to be. Raises what
     isn't, with its place."""
     words, text = settings.words_of(config), settings.text_of(config)

@@ -3,10 +3,15 @@
 
 The server's certificate has to be of the authority CA, and of the host that is connected to; the gate shows its own.
 """
+import argparse
+import socket
 import ssl
+from collections.abc import Callable
+from typing import TypeVar
 
 from wire import Wrong
 
+Result = TypeVar("Result")
 # How many bytes are taken from the network at a time.
 PIECE = 16_384
 
@@ -14,7 +19,7 @@ PIECE = 16_384
 class Tls:
     """What --tls CA CERT KEY names."""
 
-    def __init__(self, authority, certificate, key):
+    def __init__(self, authority: str, certificate: str, key: str) -> None:
         try:
             self.context = ssl.create_default_context(cafile=authority)
         except (OSError, ssl.SSLError) as error:
@@ -25,17 +30,17 @@ class Tls:
         except (OSError, ssl.SSLError) as error:
             raise Wrong(f"{certificate}, {key}: {error}; name the gate's certificate and its key") from None
 
-    def over(self, plain, host):
+    def over(self, plain: socket.socket, host: str) -> "Secured":
         """The socket of a session over a plain one, once both sides know each other."""
         return Secured(plain, self.context, host)
 
 
-def add_option(parser):
+def add_option(parser: argparse.ArgumentParser) -> None:
     parser.add_argument("--tls", metavar=("CA", "CERT", "KEY"), nargs=3,
                         help="connect through TLS: the authority's certificate, the gate's certificate and its key")
 
 
-def tls_of(asked):
+def tls_of(asked: argparse.Namespace) -> Tls | None:
     """What --tls names, or None where it isn't among the words."""
     return Tls(*asked.tls) if asked.tls else None
 
@@ -43,7 +48,7 @@ def tls_of(asked):
 class Secured:
     """A socket whose bytes go through TLS. Its half may be ended as that of a plain one: what comes is still read."""
 
-    def __init__(self, plain, context, host):
+    def __init__(self, plain: socket.socket, context: ssl.SSLContext, host: str) -> None:
         self.plain, self.held = plain, b""
         self.came, self.goes = ssl.MemoryBIO(), ssl.MemoryBIO()
         self.session = context.wrap_bio(self.came, self.goes, server_hostname=host)
@@ -53,7 +58,7 @@ class Secured:
             plain.close()
             raise
 
-    def carry(self, step, *words):
+    def carry(self, step: Callable[..., Result], *words: int | bytes) -> Result | bytes:
         """Takes a step of TLS, and passes bytes on for as long as it waits for more."""
         while True:
             try:
@@ -77,21 +82,25 @@ class Secured:
                 raise Wrong(f"TLS: {error.reason}; is the certificate of the server's authority, valid and not "
                             "revoked?") from None
 
-    def flush(self):
+    def flush(self) -> None:
         data = self.goes.read()
         if data:
             self.plain.sendall(data)
 
-    def sendall(self, data):
+    def sendall(self, data: bytes) -> None:
         self.carry(self.session.write, data)
 
-    def recv(self, size):
+    def recv(self, size: int) -> bytes:
         if self.held:
             data, self.held = self.held[:size], self.held[size:]
             return data
         return self.carry(self.session.read, size)
 
-    def shutdown(self, _):
+    def settimeout(self, seconds: float) -> None:
+        """Lets each read wait at most so long from now on."""
+        self.plain.settimeout(seconds)
+
+    def shutdown(self, _: int) -> None:
         """Ends this half. What has come by then is read first: behind its own end TLS takes up no step with it."""
         try:
             while data := self.session.read(PIECE):
@@ -104,5 +113,5 @@ class Secured:
             pass
         self.flush()
 
-    def close(self):
+    def close(self) -> None:
         self.plain.close()

@@ -6,6 +6,7 @@ import argparse
 import pathlib
 import re
 import shlex
+from collections.abc import Iterable
 
 import wire
 from wire import Wrong
@@ -31,13 +32,13 @@ EARLIER = re.compile(r"# (?:The words of the server behind|Revised tables are th
 class Words:
     """The arguments of `serve`."""
 
-    def __init__(self, words):
-        self.options, self.flags, self.revised = {}, [], []
-        words = list(words)
-        while words:
-            word = words.pop(0)
-            if word in VALUES and words:
-                self.options[word] = words.pop(0)
+    def __init__(self, words: Iterable[str]) -> None:
+        self.options, self.flags, self.revised = dict[str, str](), list[str](), list[str]()
+        left = list(words)
+        while left:
+            word = left.pop(0)
+            if word in VALUES and left:
+                self.options[word] = left.pop(0)
             elif word in FLAGS:
                 self.flags.append(word)
             elif word.startswith("-"):
@@ -48,34 +49,34 @@ class Words:
             if needed not in self.options:
                 raise Wrong(f"the arguments of serve lack {needed}")
 
-    def arguments(self):
+    def arguments(self) -> list[str]:
         """The arguments, one by one: options in their order, and the revised tables last."""
         found = [word for name in VALUES if name in self.options for word in (name, self.options[name])]
         return [*found, *(flag for flag in FLAGS if flag in self.flags), *self.revised]
 
-    def copy(self):
+    def copy(self) -> "Words":
         return Words(self.arguments())
 
-    def __str__(self):
+    def __str__(self) -> str:
         return shlex.join(self.arguments())
 
-    def __eq__(self, other):
+    def __eq__(self, other: object) -> bool:
         return str(self) == str(other)
 
-    def is_sample(self):
+    def is_sample(self) -> bool:
         """Whether these are the settings that come with the program, with or without --strict."""
         found = self.copy()
         found.flags = ["--strict"]
         return found == sample()
 
-    def __getitem__(self, name):
+    def __getitem__(self, name: str) -> str:
         return self.options[f"--{name}"]
 
-    def tables(self):
+    def tables(self) -> list[str]:
         """The files of its tables, the first one first."""
         return [self["table"], *self.revised]
 
-    def values(self, name):
+    def values(self, name: str) -> list[str]:
         """The values that the file has for a name."""
         if name == REVISED:
             return self.revised
@@ -84,7 +85,7 @@ class Words:
         return [self.options[f"--{name}"]] if f"--{name}" in self.options else []
 
 
-def number(name, text):
+def number(name: str, text: str) -> str | None:
     """What is wrong with a number, or nothing."""
     least, most = RANGES[name]
     if not re.fullmatch("[0-9]{1,10}", text, re.ASCII) or not least <= int(text) <= most:
@@ -92,7 +93,7 @@ def number(name, text):
     return None
 
 
-def refusal(name, value):
+def refusal(name: str, value: str) -> str | None:
     """What is wrong with the value of a setting, and what to write; or nothing."""
     if not value:
         return "it has no value"
@@ -113,9 +114,9 @@ def refusal(name, value):
     return f"'{value}' begins like an option; name the file as ./{value}" if value[0] == "-" else None
 
 
-def read(text):
+def read(text: str) -> Words:
     """The arguments that a file of settings has. A fault names the line."""
-    found, places = [], {}
+    found, places = list[tuple[str, str]](), dict[str, int]()
     for place, line in enumerate(text.splitlines(), 1):
         if not line.strip() or line.lstrip().startswith("#"):
             continue
@@ -141,12 +142,12 @@ def read(text):
     return Words([*options, *(value for name, value in found if name == REVISED)])
 
 
-def is_earlier(text):
+def is_earlier(text: str) -> bool:
     """Whether a file is as an earlier version had it: all arguments in one line SERVE=\"..\"."""
     return bool(re.search(r"^\s*SERVE=", text, re.M))
 
 
-def read_earlier(text):
+def read_earlier(text: str) -> Words:
     """The arguments of a file of an earlier version, as systemd read them. A fault names the line."""
     *_, found = re.findall(r"^\s*SERVE=(.*)$", text.replace("\\\n", " "), re.M)
     place = max(at for at, line in enumerate(text.splitlines(), 1) if is_earlier(line))
@@ -156,7 +157,7 @@ def read_earlier(text):
         raise Wrong(f"line {place}: {wrong}") from None
 
 
-def line_of(text, name, value=None):
+def line_of(text: str, name: str, value: str | None = None) -> int:
     """The number of the line that has a setting, or 0."""
     for place, line in enumerate(text.splitlines(), 1):
         match = LINE.fullmatch(line.strip())
@@ -165,7 +166,7 @@ def line_of(text, name, value=None):
     return 0
 
 
-def text_of(path):
+def text_of(path: str | pathlib.Path) -> str:
     """What a file of settings says."""
     try:
         return pathlib.Path(path).read_text()
@@ -176,7 +177,7 @@ def text_of(path):
         raise Wrong(f"{path}: {said}; name the file of the server's settings") from None
 
 
-def words_of(path):
+def words_of(path: str | pathlib.Path) -> Words:
     """The arguments of `serve` in a file of settings, in today's form or in that of an earlier version."""
     text = text_of(path)
     try:
@@ -185,16 +186,16 @@ def words_of(path):
         raise Wrong(f"{path}: {wrong}") from None
 
 
-def sample_text():
+def sample_text() -> str:
     """The text of the settings that come with the program."""
     return next(path for path in SAMPLES if path.is_file()).read_text()
 
 
-def sample():
+def sample() -> Words:
     return read(sample_text())
 
 
-def written(words, text=None):
+def written(words: Words, text: str | None = None) -> str:
     """A text of settings that has these arguments: a text changed where it has other ones, so that its comments stay, or
     the one that comes with the program."""
     if text is None or is_earlier(text):
@@ -206,7 +207,7 @@ def written(words, text=None):
     return "".join(f"{line}\n" for line in lines)
 
 
-def with_values(lines, name, values):
+def with_values(lines: list[str], name: str, values: list[str]) -> list[str]:
     """The lines of a text in which a setting has these values: where it had some, else where a comment shows it, else at
     the end. One without a value becomes a comment."""
     found = [(place, match) for place, match in ((place, LINE.fullmatch(line.strip()))

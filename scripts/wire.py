@@ -5,14 +5,20 @@ The lines between a comment `generated` and a comment `end` are generated from t
 The model of a server, scripts/model.py, has tables of its own.
 """
 import argparse
-import collections
 import datetime
 import pathlib
 import socket
 import struct
+from typing import TYPE_CHECKING, Any, NamedTuple, Self
 
 import model
 
+if TYPE_CHECKING:
+    import secured
+
+# Host and port.
+Address = tuple[str, int]
+Model = model.Station
 VECTORS = pathlib.Path(__file__).resolve().parent.parent / "docs" / "vectors.txt"
 
 # generated: frames
@@ -84,37 +90,37 @@ class Wrong(Exception):
     """What was given or answered can't be right. The text says what, and where."""
 
 
-def number_at(frame, start, size, signed=False):
+def number_at(frame: bytes, start: int, size: int, signed: bool = False) -> int:
     """The number at a place of a frame, big-endian."""
     return int.from_bytes(frame[start : start + size], "big", signed=signed)
 
 
-def is_touch(frame):
+def is_touch(frame: bytes) -> bool:
     """Whether a request's frame begins as a touch does: it has a gate and a number, as each but an enquiry."""
     return len(frame) > 2 and frame[2] in REQUESTS and frame[2] != model.ENQUIRE
 
 
-def is_request(frame):
+def is_request(frame: bytes) -> bool:
     """Whether these bytes are exactly one request's frame."""
     return len(frame) > 2 and REQUESTS.get(frame[2]) == number_at(frame, 0, 2) == len(frame) - 2
 
 
-def is_fault(answer, *codes):
+def is_fault(answer: bytes, *codes: int) -> bool:
     """Whether an answer is a fault of one of these codes, or any fault where none is named."""
     return answer[2] == model.FAULT and (not codes or answer[3] in codes)
 
 
-def name_of(frame):
+def name_of(frame: bytes) -> bytes:
     """The six bytes of gate and number, of a touch or of the answer to one."""
     start = 4 if frame[2] == model.FAULT else 3
     return frame[start : start + 6]
 
 
-def gate_and_number(name):
+def gate_and_number(name: bytes) -> str:
     return f"gate {number_at(name, 0, 2)} number {number_at(name, 2, 4)}"
 
 
-def opens(request, answer):
+def opens(request: bytes, answer: bytes) -> bool:
     """Whether a gate opens its barrier by this answer to this request."""
     if request[2:3] not in (bytes([model.ENTER]), bytes([model.LEAVE])) or answer[2] != model.REPLY:
         return False
@@ -123,7 +129,7 @@ def opens(request, answer):
     return answer[9] in OPENING or answer[9] < FIRST_REFUSAL and answer[9] not in VERDICTS
 
 
-def in_words(request, answer):
+def in_words(request: bytes, answer: bytes) -> str:
     """What the answer to a request says."""
     if answer[2] == model.REPLY:
         verdict, change = answer[9], number_at(answer, 10, 4, signed=True)
@@ -141,15 +147,15 @@ def in_words(request, answer):
 MEANINGS = {"verdict": VERDICTS, "state": STATES, "code": FAULTS}
 
 
-def fields_of(frame):
-    """The fields of a frame behind its kind, by their names."""
+def fields_of(frame: bytes) -> dict[str, Any]:
+    """The fields of a frame behind its kind, by their names: numbers, and of a revision the bytes of a digest."""
     _, *values = struct.unpack(FORMS[frame[2]], frame[2:])
     return dict(zip(FIELDS[frame[2]].split(), values, strict=True))
 
 
-def value_in_words(name, value):
+def value_in_words(name: str, value: int | bytes) -> str:
     """A field's value, with what it stands for."""
-    if name == "digest":
+    if isinstance(value, bytes):
         return value.hex()
     if name == "moment":
         clock = datetime.datetime.fromtimestamp(value, datetime.timezone.utc)
@@ -158,13 +164,13 @@ def value_in_words(name, value):
     return f"{value} ({said})" if said else str(value)
 
 
-def fields(frame):
+def fields(frame: bytes) -> str:
     """A whole frame by its kind and its fields."""
     kind = KINDS.get(frame[2]) or ANSWER_KINDS[frame[2]]
     return f"{kind}: " + ", ".join(f"{name} {value_in_words(name, value)}" for name, value in fields_of(frame).items())
 
 
-def differences(got, wanted):
+def differences(got: bytes, wanted: bytes) -> str:
     """What is otherwise in an answer than in the wanted one."""
     if got[2] != wanted[2]:
         return f"is {fields(got)}. It should be {fields(wanted)}"
@@ -175,7 +181,7 @@ def differences(got, wanted):
     return f"({ANSWER_KINDS[wanted[2]]}{name}) has " + "; ".join(other)
 
 
-def address(text):
+def address(text: str) -> Address:
     """Host and port of an address on the command line."""
     host, _, port = text.rpartition(":")
     if not host or not port.isdecimal() or int(port) > 65535:
@@ -183,7 +189,7 @@ def address(text):
     return host.strip("[]"), int(port)
 
 
-def listener(where):
+def listener(where: Address) -> tuple[socket.socket, str]:
     """A socket that listens at an address, with the address that it really has."""
     try:
         made = socket.create_server(where, family=socket.AF_INET6 if ":" in where[0] else socket.AF_INET, backlog=128)
@@ -196,30 +202,29 @@ def listener(where):
 class Connection:
     """A connection to a server, through TLS where that is named, on which each read waits at most so many seconds."""
 
-    def __init__(self, where, timeout, tls=None):
+    def __init__(self, where: Address, timeout: float, tls: "secured.Tls | None" = None) -> None:
         self.timeout = timeout
-        self.socket = socket.create_connection(where, timeout)
-        self.socket.setsockopt(socket.IPPROTO_TCP, socket.TCP_NODELAY, 1)
-        if tls is not None:
-            self.socket = tls.over(self.socket, where[0])
+        plain = socket.create_connection(where, timeout)
+        plain.setsockopt(socket.IPPROTO_TCP, socket.TCP_NODELAY, 1)
+        self.socket: "socket.socket | secured.Secured" = plain if tls is None else tls.over(plain, where[0])
 
-    def __enter__(self):
+    def __enter__(self) -> Self:
         return self
 
-    def __exit__(self, *_):
+    def __exit__(self, *_: object) -> None:
         self.close()
 
-    def close(self):
+    def close(self) -> None:
         self.socket.close()
 
-    def send(self, *frames):
+    def send(self, *frames: bytes) -> None:
         self.socket.sendall(b"".join(frames))
 
-    def end_sending(self):
+    def end_sending(self) -> None:
         """Ends the gate's half of the connection."""
         self.socket.shutdown(socket.SHUT_WR)
 
-    def read(self, size):
+    def read(self, size: int) -> bytes:
         """So many bytes, or fewer where the connection ends before."""
         taken = b""
         while len(taken) < size:
@@ -233,7 +238,7 @@ class Connection:
             taken += more
         return taken
 
-    def take(self):
+    def take(self) -> bytes:
         """The next answer's frame, or no bytes where the connection has ended between two."""
         head = self.read(3)
         if not head:
@@ -246,15 +251,17 @@ class Connection:
         return frame
 
 
-Vector = collections.namedtuple("Vector", "line section request answer")
+Vector = NamedTuple("Vector", [("line", int), ("section", str), ("request", bytes), ("answer", bytes)])
 
 
 class Station:
     """The vectors of one server, which begins with an empty journal."""
 
-    def __init__(self, folder, line, words):
-        self.name, self.vectors, self.bad, self.waits, self.sections = words[0], [], [], [], []
-        self.revised = []
+    def __init__(self, folder: pathlib.Path, line: int, words: list[str]) -> None:
+        self.name, self.vectors, self.sections = words[0], list[Vector](), list[str]()
+        # Beginnings of frames: bad ones, and those behind which a server waits for more bytes.
+        self.bad, self.waits = list[bytes](), list[bytes]()
+        self.revised: list[pathlib.Path] = []
         options = dict(word.partition("=")[::2] for word in words[1:])
         numbers = options.get("cards", ""), options.get("capacity", "")
         if set(options) != {"table", "cards", "capacity"} or not all(number.isdecimal() for number in numbers):
@@ -262,11 +269,11 @@ class Station:
         self.table = folder / options["table"]
         self.cards, self.capacity = map(int, numbers)
 
-    def words(self):
+    def words(self) -> list[str | pathlib.Path | int]:
         """The words with which this server is started, the tables of its revisions last."""
         return ["--table", self.table, "--cards", self.cards, "--capacity", self.capacity, *self.revised]
 
-    def model(self):
+    def model(self) -> Model:
         """The plain model of this server."""
         supplied = [table_of(path) for path in self.revised]
         try:
@@ -275,7 +282,7 @@ class Station:
             raise Wrong(f"{self.name}: {error}") from None
 
 
-def table_of(path):
+def table_of(path: str | pathlib.Path) -> model.Table:
     """The fare table in a file."""
     try:
         return model.Table(pathlib.Path(path).read_bytes().decode())
@@ -283,7 +290,7 @@ def table_of(path):
         raise Wrong(f"{path}: {error}; lay a valid fare table there, or name another") from None
 
 
-def hexadecimal(text, line):
+def hexadecimal(text: str, line: int) -> bytes:
     """The bytes of a text of digits."""
     try:
         return bytes.fromhex(text)
@@ -291,7 +298,7 @@ def hexadecimal(text, line):
         raise Wrong(f"line {line}: '{text[:40]}' is no text of hexadecimal digits, two for each byte") from None
 
 
-def lines_of(path):
+def lines_of(path: str | pathlib.Path) -> list[tuple[int, str]]:
     """The lines of a text file, numbered from 1; - is standard input."""
     try:
         with open(0 if path == "-" else path, encoding="utf-8") as file:
@@ -302,7 +309,7 @@ def lines_of(path):
         raise Wrong(f"{path}: this is no text file") from None
 
 
-def beginnings(text, line):
+def beginnings(text: str, line: int) -> list[bytes]:
     """The beginnings from the one to the other of a text FROM..TO, or the one that it names."""
     first, _, last = text.partition("..")
     low, high = hexadecimal(first, line), hexadecimal(last or first, line)
@@ -315,10 +322,11 @@ def beginnings(text, line):
 class Reader:
     """Reads the lines of a file of vectors, whose form its own first lines tell."""
 
-    def __init__(self, folder):
-        self.folder, self.stations, self.asked = folder, [], None
+    def __init__(self, folder: pathlib.Path) -> None:
+        self.folder, self.stations = folder, list[Station]()
+        self.asked: bytes | None = None
 
-    def add(self, line, text):
+    def add(self, line: int, text: str) -> None:
         mark, _, rest = text.partition(" ")
         if mark == "#!":
             self.instruct(line, rest.split())
@@ -339,7 +347,7 @@ class Reader:
             raise Wrong(f"line {line}: '{text[:40]}' is no line of vectors: a section's [NAME], and then '> HEX' and "
                         "'< HEX' in turn")
 
-    def instruct(self, line, words):
+    def instruct(self, line: int, words: list[str]) -> None:
         """Takes a line that begins with #!."""
         if words[:1] == ["server"] and len(words) > 1:
             self.stations.append(Station(self.folder, line, words[1:]))
@@ -353,7 +361,7 @@ class Reader:
             raise Wrong(f"line {line}: '#! {' '.join(words)[:40]}' is neither server, revision, bad nor waits")
 
 
-def vectors(path=VECTORS):
+def vectors(path: str | pathlib.Path = VECTORS) -> list[Station]:
     """The servers of a file of vectors, each with its vectors, in the file's order."""
     reader = Reader(pathlib.Path(path).resolve().parent)
     try:
@@ -366,7 +374,7 @@ def vectors(path=VECTORS):
     return reader.stations
 
 
-def requests(path):
+def requests(path: str | pathlib.Path) -> list[tuple[int, bytes]]:
     """The requests of a file, each with its line's number. Comments, sections and answers' lines are passed over."""
     found = []
     for line, text in lines_of(path):
