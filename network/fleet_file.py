@@ -63,6 +63,10 @@ def fault_of_tables(value):
     return None
 
 
+def fault_of_servers(value):
+    return "begin each server with a line [[server]], without quotes"
+
+
 def fault_of_name(value):
     if not (isinstance(value, str) and re.fullmatch(r"[A-Za-z0-9][A-Za-z0-9._-]{0,62}", value)):
         return 'write up to 63 letters, digits, dots, dashes and underscores, as "alder-2"'
@@ -148,7 +152,7 @@ def parsed(path, text):
         said, _, place = str(error).rpartition(" (at ")
         raise Wrong(f"{place.rstrip(')')}: {said}; write NAME = VALUE, with text in quotes") from None
     line, rows = Lines(text), settings.pop("server", None)
-    check(settings, {**SETTINGS, "[[server]]": None}, NEEDED, line)
+    check(settings, {**SETTINGS, "[[server]]": fault_of_servers}, NEEDED, line)
     return Fleet(path, settings, servers_of(rows, line))
 
 

@@ -28,7 +28,7 @@ def server_of(argument):
     if named:
         return named[1], named[2]
     path = pathlib.Path(argument).absolute()
-    stem = re.fullmatch(rf"(.*?){COPY}", path.name)[1]
+    stem = re.sub(rf"{COPY}\Z", "", path.name)
     return (path.parent.name if stem in USUAL else stem), argument
 
 

@@ -14,6 +14,7 @@ import town
 from harness import PROGRAM
 from network_base import (FLIPPED, NETWORK, PYTHON, TABLES, TIME, DatabaseTest, OnSqlite, call, flip, load, network, room)
 
+import seals
 
 # What a traceback of network/audit has. Dask's own workers may write some as they end.
 FROM_AUDIT = f'File "{NETWORK / "audit"}"'
@@ -323,6 +324,9 @@ exec PROGRAM "$@"
         done = call("audit", self.room / "x07", self.room / "x07-20260105.journal", *TABLES, "--report", self.report)
         self.assertEqual((done.returncode, done.stdout, self.report.exists()), (2, "", False))
         self.assertIn("are both of the server x07; name each as SERVER=FILE", done.stderr)
+
+    def test_a_line_break_in_a_file_s_name_is_a_part_of_its_server_s(self):
+        self.assertEqual(seals.server_of("a\nb-20260105.journal"), ("a\nb", "a\nb-20260105.journal"))
 
     def test_the_report_of_an_older_version_keeps_its_seals(self):
         self.flat("x08")

@@ -68,6 +68,8 @@ class FleetFile(unittest.TestCase):
          '"/var/lib/bovtrila-network"'),
         ("folder =", "folders =", "line 3: there is no setting 'folders' here; there are folder, database, tables, "
          "[[server]]"),
+        ("folder =", '"[[server]]" =', "[[server]]: '/srv/network' isn't allowed; begin each server with a line [[server]], "
+         "without quotes"),
         ('name = "alder"', 'name = "alder/1"', "line 6: name: 'alder/1' isn't allowed; write up to 63 letters, digits, "
          'dots, dashes and underscores, as "alder-2"'),
         ('name = "birch"', 'name = "alder"', "line 11: name: line 6 has 'alder' already; each server has a different one"),
