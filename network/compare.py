@@ -3,7 +3,7 @@
 import csv
 import itertools
 
-import program
+import commands
 import rows
 
 # How many differences are named.
@@ -47,8 +47,8 @@ def differences(base, name, copy, tables, loaded):
         true = (line for line in read.of_journal(journal) if line.split(",", 4)[3][:7] not in months)
         found = [(f"place {place_of(pair, 1)}", *pair)
                  for pair in paired(stored(base, journal, 0, end + 1), true, lambda line: int(line.split(",", 2)[1]))]
-    words = ["balances", "--journal", copy, "--at", end, *program.words_of_tables(copy, tables)]
-    cards = program.said(name, *words)[0].splitlines(keepends=True)[1:]
+    words = ["balances", "--journal", copy, "--at", end, *commands.words_of_tables(copy, tables)]
+    cards = commands.said(name, *words)[0].splitlines(keepends=True)[1:]
     of_base = base.lines(CARDS.format(journal=journal))
     found += [(f"card {place_of(pair, 0)}", *pair)
               for pair in paired(of_base, cards, lambda line: int(line.split(",", 1)[0]))]
@@ -67,7 +67,7 @@ def shown(line):
 def same_beginning(base, copy, facts, read, other):
     """Whether a journal begins with the touches of another one of the database, or that one with these."""
     if other["touches"] <= facts["touches"] and other["version"] == facts["version"]:
-        return program.matches(copy, other)
+        return commands.matches(copy, other)
     end = min(other["touches"], facts["touches"])
     first = max(0, end - 100)
     ours = {*map(str.rstrip, stored(base, other["journal"], first, end))}

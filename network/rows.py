@@ -9,7 +9,7 @@ import re
 import shutil
 import tempfile
 
-import program
+import commands
 
 EPOCH = datetime.date(1970, 1, 1)
 # A month so far from the middle one of a load has no partition of its own: a gate's clock is wrong.
@@ -77,16 +77,16 @@ class Rows:
 def copied(journal):
     """A copy of a journal: its path, and the descriptor that its readers have to inherit. The file has no name, so whatever
     ends this process removes it."""
-    with tempfile.TemporaryFile() as copy, program.opened(journal) as file:
+    with tempfile.TemporaryFile() as copy, commands.opened(journal) as file:
         shutil.copyfileobj(file, copy, PIECE)
         copy.flush()
-        yield program.Inherited(f"/dev/fd/{copy.fileno()}")
+        yield commands.Inherited(f"/dev/fd/{copy.fileno()}")
 
 
 @contextlib.contextmanager
 def history(name, journal, tables):
     """What `history` writes of a journal, in a file that has no name."""
     with tempfile.TemporaryFile() as file:
-        words = program.words_of_tables(journal, tables)
-        program.said(name, "history", "--journal", journal, *words, output=file)
+        words = commands.words_of_tables(journal, tables)
+        commands.said(name, "history", "--journal", journal, *words, output=file)
         yield io.TextIOWrapper(file, encoding="ascii", newline="\n")

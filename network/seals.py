@@ -10,7 +10,7 @@ import json
 import pathlib
 import re
 
-import program
+import commands
 
 # How copies of a journal are named (docs/OPERATING.md, "Nightly copies and seals"), and what a server's own journal is named.
 COPY = r"(?:\.journal)?(?:[-.]\d{8}(?:T\d{6}Z)?|-\d{4}-\d\d-\d\d)?(?:\.journal)?"
@@ -46,7 +46,7 @@ def asked_for(arguments):
 def read(path):
     """The last report, or an empty one."""
     try:
-        report = json.loads(program.content_of(path))
+        report = json.loads(commands.content_of(path))
     except FileNotFoundError:
         return {}
     except ValueError as error:

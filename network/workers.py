@@ -10,17 +10,17 @@ import logging
 import os
 import sys
 
-import program
+import commands
 
 # What Dask's configuration has to name for an address tls://..
 CERTIFICATES = ("ca-file", "client.cert", "client.key")
 
 
 def in_pool(tasks, count):
-    """The results of tasks, each the arguments of program.audited, on so many threads; one for each processor by itself."""
+    """The results of tasks, each the arguments of commands.audited, on so many threads; one for each processor by itself."""
     found = {}
     with concurrent.futures.ThreadPoolExecutor(count or os.cpu_count()) as pool:
-        futures = {pool.submit(program.audited, *arguments): name for name, arguments in tasks.items()}
+        futures = {pool.submit(commands.audited, *arguments): name for name, arguments in tasks.items()}
         for future in concurrent.futures.as_completed(futures):
             found[futures[future]] = future.result()
             print(f"\raudited {len(found)} of {len(tasks)} journals", end="", file=sys.stderr, flush=True)
@@ -37,10 +37,10 @@ def on_scheduler(tasks, address, patience):
         raise ConnectionError(f"{address} needs certificates in Dask's configuration (docs/NETWORK.md, \"Auditing on "
                               "several machines\")")
     # Tasks take this module along, since a worker elsewhere hasn't this folder.
-    distributed.protocol.pickle.cloudpickle.register_pickle_by_value(program)
+    distributed.protocol.pickle.cloudpickle.register_pickle_by_value(commands)
     with distributed.Client(address, timeout=patience) as client:
         logging.getLogger("distributed").setLevel(logging.CRITICAL)
-        futures = {name: client.submit(program.audited, *arguments, pure=False) for name, arguments in tasks.items()}
+        futures = {name: client.submit(commands.audited, *arguments, pure=False) for name, arguments in tasks.items()}
         with contextlib.redirect_stdout(sys.stderr):
             distributed.progress(list(futures.values()), notebook=False)
             print()
@@ -52,7 +52,7 @@ def on_scheduler(tasks, address, patience):
         for name in tasks:
             future = futures.pop(name)
             if isinstance(future.exception(), distributed.KilledWorker):
-                future = client.submit(program.audited, *tasks[name], pure=False)
+                future = client.submit(commands.audited, *tasks[name], pure=False)
             found[name] = result_of(future)
         return found
 

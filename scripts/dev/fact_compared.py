@@ -92,7 +92,7 @@ FACTS: dict[str, tuple[Place | Read, list[Place]]] = {
         ]),
     "the most open slots that crashes leave": (
         Place("crates/tap_journal/src/alone.rt", r"const BEHIND_LIMIT: u32 = (?P<code>\d+);"), [
-            Place("network/program.py", r"^BEHIND = (?P<code>\d+)$"),
+            Place("network/commands.py", r"^BEHIND = (?P<code>\d+)$"),
             Place("scripts/tests/audit", r"^BEHIND = (?P<code>\d+)$"),
         ]),
     "the most cards of a station": (
