@@ -57,7 +57,7 @@ class Bench:
         return Server([*self.before, *before, program, *words])
 
     def bare(self, connections, before=(), longer=0):
-        """Starts the bare server for so many connections, which holds its lock so many nanoseconds longer for a touch, or writes
+        """Starts the minimal server for so many connections, which holds its lock so many nanoseconds longer for a touch, or writes
         the next touch ahead where `longer` is "ahead"."""
         words = [self.folder / "bare_server", self.journals / "bare", connections, 2, longer]
         return Server([*self.before, *before, *words])
