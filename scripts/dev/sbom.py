@@ -7,7 +7,10 @@ unknown is NOASSERTION, as SPDX demands.
 import dataclasses
 import datetime
 import hashlib
+import pathlib
 import re
+from collections.abc import Sequence
+from typing import Any
 
 import repository
 import sources
@@ -71,7 +74,7 @@ def of_file(purpose, file, name, version):
                      checksums=[{"algorithm": "SHA256", "checksumValue": digest}])
 
 
-def document(release, archive, packages):
+def document(release: Release, archive: pathlib.Path, packages: Sequence[pathlib.Path]) -> dict[str, Any]:
     """The document about a source archive and the Debian packages that were made of it."""
     source = of_file("SOURCE", archive, "bovtrila", release.version)
     kit = described("Kit", release.kit.split()[0], release.kit)
