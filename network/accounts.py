@@ -1,9 +1,12 @@
 # SPDX-License-Identifier: Apache-2.0
 """The table `balances` of the network's database: how it follows the touches, and how the touches are checked."""
 import pathlib
+from typing import TypedDict
 
 import gates
 import journeys
+from database import Database
+from fields import Breach, Stage
 
 HERE = pathlib.Path(__file__).resolve().parent
 COLUMNS = ("card", "place", "state", "balance", "transferred", "paid_in", "charged", "travel_moment", "travel_day")
@@ -57,14 +60,37 @@ ORDER BY 1
 """
 
 
-def advance(base, journal, stage, first):
+class Unlike(TypedDict):
+    """A card whose balance in pence isn't `told`, that of its last accepted touch."""
+
+    card: int
+    balance: int
+    told: int
+
+
+class Found(TypedDict):
+    """A breach."""
+
+    place: int | None
+    breach: str
+
+
+class Ends(TypedDict):
+    """How many touches of a journal were loaded and checked, and the place that a check of everything begins with."""
+
+    touches: int
+    checked: int
+    base: int
+
+
+def advance(base: Database, journal: int, stage: Stage, first: int) -> Unlike | None:
     """Adds a journal's touches from a place on to the balances of a stage: the first card whose balance isn't that of its
     last touch, or None."""
     base.execute(ADVANCE, journal=journal, stage=stage, first=first)
-    return base.row(UNLIKE, journal=journal, stage=stage, first=first)
+    return base.row(Unlike, UNLIKE, journal=journal, stage=stage, first=first)
 
 
-def copy_stage(base, journal, old, new):
+def copy_stage(base: Database, journal: int, old: Stage, new: Stage) -> None:
     """Gives a stage of a journal the rows of another."""
     for table, columns in (("balances", COLUMNS), ("gates", gates.COLUMNS), ("last_journeys", journeys.NAMES)):
         base.execute(f"DELETE FROM {table} WHERE journal = :journal AND stage = :stage", journal=journal, stage=new)
@@ -73,21 +99,22 @@ def copy_stage(base, journal, old, new):
                      " WHERE journal = :journal AND stage = :old", journal=journal, old=old, new=new)
 
 
-def check(base, journal, everything=False):
+def check(base: Database, journal: int, everything: bool = False) -> list[Breach]:
     """Checks a journal's touches that weren't checked so far, or all of them: the breaches, in pairs of a place and words.
     Where there are none, the journal counts as checked. It has to be committed."""
-    row = base.row("SELECT touches, checked, base FROM journals WHERE journal = :journal", journal=journal)
+    row = base.one(Ends, "SELECT touches, checked, base FROM journals WHERE journal = :journal", journal=journal)
     first = row["checked"]
     if everything:
         first = row["base"]
         copy_stage(base, journal, "detached", "checked")
     text = base.own((HERE / "violations.sql").read_text())
-    found = base.table(text, journal=journal, first=first, stage="checked")[1]
+    found: list[Breach] = [(each["place"], each["breach"])
+                           for each in base.rows(Found, text, journal=journal, first=first, stage="checked")]
     if found:
         return found
     unlike = advance(base, journal, "checked", first)
     found = [(None, f"the balance of card {unlike['card']} is not that of its last touch")] if unlike else []
-    found += base.table(DIFFERENT, journal=journal)[1]
+    found += [(each["place"], each["breach"]) for each in base.rows(Found, DIFFERENT, journal=journal)]
     gates.advance(base, journal, "checked", first, row["touches"])
     found += gates.breaches(base, journal)
     found += journeys.breaches(base, journal, first, row["touches"])

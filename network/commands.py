@@ -3,6 +3,9 @@
 
 It needs nothing but Python and the program, so that a task of it can be sent to another machine.
 """
+# A task takes this module along without its types: an annotation is text here, and no class of a TypedDict is called.
+from __future__ import annotations
+
 import errno
 import hashlib
 import os
@@ -11,6 +14,8 @@ import re
 import shutil
 import stat
 import subprocess
+from collections.abc import Iterable, Mapping
+from typing import IO, BinaryIO, TypeAlias, TypedDict, final
 
 # The header of a journal and the slots of its two formats, in bytes; the mark of a slot that counts; where a slot has its
 # touch's kind, the kind of a revision, and where its table's digest stands (docs/JOURNAL.md).
@@ -19,12 +24,63 @@ KIND, REVISION, DIGEST = 1, 6, slice(12, 44)
 # How many open slots crashes leave behind a journal's end at most.
 BEHIND = 2
 
+# A file's name, an argument of a command, and the files of fare tables by their digests.
+Name: TypeAlias = str | pathlib.Path
+Word: TypeAlias = str | int | pathlib.Path
+Tables: TypeAlias = Mapping[str, str]
+# A number of touches, and the digest of their bytes and the header's.
+Pair: TypeAlias = tuple[int, str]
+
 
 class Fault(Exception):
     """The program refused a journal, or failed on it. The text is its fault's line, or how it ended."""
 
 
-def found(name=None):
+class Sealed(TypedDict):
+    """What names the first touches of a journal: how many there are, and their seal."""
+
+    touches: int
+    seal: str
+
+
+class Seal(Sealed):
+    """A seal in the report of an audit. `begins` is the digest of the journal's header and first touch; None where the
+    journal had no touch, or an older version made the report. `audited` is the moment of the audit."""
+
+    begins: str | None
+    audited: str
+
+
+class Facts(Sealed):
+    """What `verify` says of a journal."""
+
+    version: int
+    capacity: int
+    cards: int
+    behind: int
+    digest: str
+
+
+@final
+class Sound(Facts):
+    """What an audit finds of a sound journal. `behind_seal` is the seal that it matched, if there was one."""
+
+    begins: str | None
+    behind_seal: Pair | None
+    sums: dict[str, int]
+
+
+@final
+class Unsound(TypedDict):
+    """What an audit finds of another journal: the fault's line."""
+
+    fault: str
+
+
+Finding: TypeAlias = Sound | Unsound
+
+
+def found(name: str | None = None) -> str:
     """The program: that of this name; in the repository the one on the path, or the repository's; and where these tools
     are installed, that of the package bovtrila, which has the same version."""
     here = pathlib.Path(__file__).resolve().parent
@@ -38,11 +94,11 @@ class Inherited(str):
     """The path /dev/fd/N of an open file, which the program inherits."""
 
     @property
-    def descriptor(self):
+    def descriptor(self) -> int:
         return int(self.rpartition("/")[2])
 
 
-def said(program, *words, output=subprocess.PIPE):
+def said(program: str, *words: Word, output: int | IO[bytes] = subprocess.PIPE) -> tuple[str, str]:
     """What a command wrote on its two outputs; a fault where its status is that of one."""
     inherited = [word.descriptor for word in words if isinstance(word, Inherited)]
     done = subprocess.run([program, *map(str, words)], stdin=subprocess.DEVNULL, stdout=output, stderr=subprocess.PIPE,
@@ -59,7 +115,7 @@ def said(program, *words, output=subprocess.PIPE):
     return (done.stdout or b"").decode(), told
 
 
-def opened(path):
+def opened(path: Name) -> BinaryIO:
     """A file, opened to be read. A pipe would make the reader wait, and a device may have no end: both are refused at once,
     in the words of docs/FAULTS.md, "The second line"."""
     mode = os.stat(path).st_mode
@@ -69,12 +125,12 @@ def opened(path):
     return open(path, "rb")
 
 
-def content_of(path):
+def content_of(path: Name) -> bytes:
     with opened(path) as file:
         return file.read()
 
 
-def named_tables(journal):
+def named_tables(journal: Name) -> list[str]:
     """The digests that a journal's file names: that of its first table, and of each revision's, in their order. Of a file
     that is no journal there may be none: the program says what it is."""
     content = content_of(journal)
@@ -92,58 +148,62 @@ def named_tables(journal):
     return list(dict.fromkeys(digests))
 
 
-def words_of_tables(journal, tables):
+def words_of_tables(journal: Name, tables: Tables) -> list[str]:
     """The words that name a journal's tables, out of these files by their digests. A table that isn't there is left out:
     the program says which touch names it, and of a first one that it is another."""
     files = [tables[digest] for digest in named_tables(journal) if digest in tables]
     return ["--table", *(files or list(tables.values())[:1])]
 
 
-def by_digest(files):
+def by_digest(files: Iterable[Name]) -> dict[str, str]:
     """The files of fare tables, by the digests of their bytes."""
     return {hashlib.sha256(content_of(file)).hexdigest(): str(file) for file in files}
 
 
-def verified(program, journal, tables, seal=None):
+def verified(program: str, journal: Name, tables: Tables, seal: Pair | None = None) -> Facts:
     """What `verify` says of a journal: its lines by their first words, with a seal of all its touches. Where a seal of
     before is given, a number of touches and a digest, the journal has to have it still."""
     words, named = ["verify", "--journal", journal], words_of_tables(journal, tables)
-    asked = ["--seal"] if seal is None else ["--sealed", *seal]
+    asked: list[Word] = ["--seal"] if seal is None else ["--sealed", *seal]
     facts = dict(line.partition(" ")[::2] for line in said(program, *words, *asked, *named)[0].splitlines())
     numbers = {name: int(facts.get(name, 0)) for name in ("version", "capacity", "cards", "touches", "behind")}
     # One run gives no more than one seal. The new one is worked out here, as any program can.
     size = SLOTS[b"OYSTERJ%d" % numbers["version"]]
     new = sealed(journal, HEADER + size * numbers["touches"]) if seal else facts["sealed"].split()[1]
-    return {**numbers, "digest": facts["digest"], "seal": new}
+    return {"version": numbers["version"], "capacity": numbers["capacity"], "cards": numbers["cards"],
+            "touches": numbers["touches"], "behind": numbers["behind"], "digest": facts["digest"], "seal": new}
 
 
-def open_behind(facts):
+def open_behind(facts: Facts) -> str:
     """What is said of a journal where more than two open slots stand behind its end."""
     return f"{facts['behind']} open slots behind the end"
 
 
-def sealed(journal, size):
+def sealed(journal: Name, size: int) -> str:
     """The SHA-256 digest of a file's first bytes, so many."""
     with opened(journal) as file:
         return hashlib.sha256(file.read(size)).hexdigest()
 
 
-def balanced(program, journal, tables, touches):
+def balanced(program: str, journal: Name, tables: Tables, touches: int) -> dict[str, int]:
     """The sums that `balances` tells after so many touches: cards, balance, paid_in and charged."""
     words = ["balances", "--journal", journal, "--at", touches, *words_of_tables(journal, tables)]
     _, told = said(program, *words, output=subprocess.DEVNULL)
     return {name: int(number) for name, number in re.findall(r"^([a-z_]+) (-?\d+)$", told, re.M)}
 
 
-def audited(program, journal, tables, server, seals):
+def audited(program: str, journal: Name, tables: Tables, server: str, seals: Mapping[str, list[Seal]]) -> Finding:
     """What an audit finds of a server's journal: what it holds, its seal and its sums, or the fault. `seals` has those of
     each server. It raises nothing."""
     try:
         known = known_seal(journal, server, seals)
-        facts = verified(program, journal, tables, known and (known["touches"], known["seal"]))
+        before = (known["touches"], known["seal"]) if known else None
+        facts = verified(program, journal, tables, before)
         if facts["behind"] > BEHIND:
             return {"fault": open_behind(facts)}
-        return {**facts, "begins": beginning(journal), "behind_seal": known and [known["touches"], known["seal"]],
+        return {"version": facts["version"], "capacity": facts["capacity"], "cards": facts["cards"],
+                "touches": facts["touches"], "behind": facts["behind"], "digest": facts["digest"], "seal": facts["seal"],
+                "begins": beginning(journal), "behind_seal": before,
                 "sums": balanced(program, journal, tables, facts["touches"])}
     except Fault as fault:
         return {"fault": str(fault)}
@@ -151,7 +211,7 @@ def audited(program, journal, tables, server, seals):
         return {"fault": error.strerror}
 
 
-def known_seal(journal, server, seals):
+def known_seal(journal: Name, server: str, seals: Mapping[str, list[Seal]]) -> Seal | None:
     """The seal that a server's journal has to match, or None where none of them is of this journal."""
     of_server = seals.get(server, [])
     matching = [seal for seal in of_server if matches(journal, seal)]
@@ -166,13 +226,13 @@ def known_seal(journal, server, seals):
     return next((seal for seal in reversed(of_server) if seal["begins"] in (first, None)), None)
 
 
-def matches(journal, seal):
+def matches(journal: Name, seal: Sealed) -> bool:
     """Whether a journal's first touches are those of a seal."""
     size = slot_size(journal)
     return size is not None and sealed(journal, HEADER + size * seal["touches"]) == seal["seal"]
 
 
-def beginning(journal):
+def beginning(journal: Name) -> str | None:
     """The digest of a journal's header and its first touch, or None where it has no touch."""
     size = slot_size(journal)
     with opened(journal) as file:
@@ -182,7 +242,7 @@ def beginning(journal):
     return hashlib.sha256(content).hexdigest()
 
 
-def slot_size(journal):
+def slot_size(journal: Name) -> int | None:
     """The bytes of a journal's slots, by its format; None where the file is no journal."""
     with opened(journal) as file:
         return SLOTS.get(file.read(9)[1:])

@@ -5,6 +5,8 @@ and the folder for what is made of these. An operator writes it, in TOML. Every 
 import pathlib
 import re
 import tomllib
+from collections.abc import Callable, Mapping, Sequence
+from typing import Any, TypeAlias, TypeGuard
 
 import database
 
@@ -15,6 +17,12 @@ FOLDER = "/var/lib/bovtrila-network"
 HOST = r"(?:[a-z_][\w.-]*@)?(?:[A-Za-z0-9][\w.-]*|\[[0-9a-fA-F:.]+\])"
 
 
+# The settings of a part of the file, whose values are of any type before they are checked, and those that a part may have:
+# each with what finds the fault of a value, of None that of a setting that isn't there.
+Settings: TypeAlias = Mapping[str, Any]
+Known: TypeAlias = Mapping[str, Callable[[object], str | None]]
+
+
 class Wrong(Exception):
     """The file can't be used. The text names the place, and says what is allowed there."""
 
@@ -22,68 +30,68 @@ class Wrong(Exception):
 class Server:
     """A server of the network: its name, its station, the network's number of its card 1, and where its copies are."""
 
-    def __init__(self, name, station, first_card, source):
+    def __init__(self, name: str, station: str, first_card: int, source: str) -> None:
         self.name, self.station, self.first_card, self.source = name, station, first_card, source
 
 
 class Fleet:
     """What a file of the fleet has, with absolute paths."""
 
-    def __init__(self, path, settings, servers):
+    def __init__(self, path: pathlib.Path, settings: Settings, servers: Sequence[Server]) -> None:
         self.folder = pathlib.Path(settings.get("folder", FOLDER))
         self.database = settings.get("database", str(self.folder / "network.db"))
         self.tables = [str(path.absolute().parent / table) for table in settings["tables"]]
         self.servers = servers
 
     @property
-    def copies(self):
+    def copies(self) -> pathlib.Path:
         """The folder that has a folder with copies for each server."""
         return self.folder / "copies"
 
 
-def is_text(value):
+def is_text(value: object) -> TypeGuard[str]:
     return isinstance(value, str) and value == value.strip() != "" and value.isprintable()
 
 
-def fault_of_folder(value):
+def fault_of_folder(value: object) -> str | None:
     if not (is_text(value) and value.startswith("/")):
         return f'write a folder from / on, as "{FOLDER}"'
     return None
 
 
-def fault_of_database(value):
+def fault_of_database(value: object) -> str | None:
     if not (is_text(value) and (database.is_postgres(value) or value.startswith("/"))):
         return f'write "service=bovtrila" or a URL of PostgreSQL, or SQLite\'s file from / on, as "{FOLDER}/network.db"'
     return None
 
 
-def fault_of_tables(value):
+def fault_of_tables(value: object) -> str | None:
     if not (isinstance(value, list) and value and all(map(is_text, value))):
         return 'write a list of the files of all fare tables, as ["first.toml", "prices-2026.toml"]'
     return None
 
 
-def fault_of_servers(value):
+def fault_of_servers(value: object) -> str:
     return "begin each server with a line [[server]], without quotes"
 
 
-def fault_of_name(value):
+def fault_of_name(value: object) -> str | None:
     if not (isinstance(value, str) and re.fullmatch(r"[A-Za-z0-9][A-Za-z0-9._-]{0,62}", value)):
         return 'write up to 63 letters, digits, dots, dashes and underscores, as "alder-2"'
     return None
 
 
-def fault_of_station(value):
+def fault_of_station(value: object) -> str | None:
     return None if is_text(value) else 'write the station\'s name, as "Alder"'
 
 
-def fault_of_card(value):
+def fault_of_card(value: object) -> str | None:
     if not (type(value) is int and 1 <= value < 2**31):
         return "write the network's number of the server's card 1, a number from 1 on without quotes, as 100001"
     return None
 
 
-def fault_of_source(value):
+def fault_of_source(value: object) -> str | None:
     # rsync's own servers, HOST::FOLDER and rsync://HOST, encrypt nothing.
     if not (is_text(value) and (value.startswith("/") or re.fullmatch(rf"(?!rsync://){HOST}:[^:].*", value))):
         return 'write a folder from / on, as "/srv/copies/alder", or "HOST:FOLDER" or "USER@HOST:FOLDER"'
@@ -91,16 +99,18 @@ def fault_of_source(value):
 
 
 # The settings of the network and those of a server, each with what finds a fault of its value; and those that are needed.
-SETTINGS = {"folder": fault_of_folder, "database": fault_of_database, "tables": fault_of_tables}
-OF_SERVER = {"name": fault_of_name, "station": fault_of_station, "first_card": fault_of_card, "from": fault_of_source}
+SETTINGS: Known = {"folder": fault_of_folder, "database": fault_of_database, "tables": fault_of_tables}
+OF_SERVER: Known = {"name": fault_of_name, "station": fault_of_station, "first_card": fault_of_card,
+                    "from": fault_of_source}
 NEEDED, NEEDED_OF_SERVER = ("tables",), ("name", "station", "from")
 
 
 class Lines:
     """The numbers of the lines of settings: by the server's place, which is None before the first one, and the name."""
 
-    def __init__(self, text):
-        self.found, server = {}, None
+    def __init__(self, text: str) -> None:
+        self.found: dict[tuple[int | None, str | None], int] = {}
+        server: int | None = None
         for number, line in enumerate(text.splitlines(), 1):
             if re.match(r"\s*\[\[\s*server\s*\]\]", line):
                 server = 0 if server is None else server + 1
@@ -108,13 +118,13 @@ class Lines:
             elif match := re.match(r"\s*([\w-]+)\s*=", line):
                 self.found.setdefault((server, match[1]), number)
 
-    def __call__(self, server, name=None):
+    def __call__(self, server: int | None, name: str | None = None) -> str:
         """The place of a setting, or of what has it."""
         number = self.found.get((server, name)) or self.found.get((server, None)) or self.found.get((None, "server"))
         return f"line {number}: " if number else ""
 
 
-def check(settings, known, needed, line, server=None):
+def check(settings: Settings, known: Known, needed: Sequence[str], line: Lines, server: int | None = None) -> None:
     """Refuses a setting that there isn't, a value that isn't allowed, and the lack of a setting that is needed."""
     for name, value in settings.items():
         if name not in known:
@@ -128,11 +138,11 @@ def check(settings, known, needed, line, server=None):
                         f"{known[name](None)}")
 
 
-def servers_of(rows, line):
+def servers_of(rows: object, line: Lines) -> list[Server]:
     """The servers, which have different names and places."""
     if not (isinstance(rows, list) and rows and all(isinstance(row, dict) for row in rows)):
         raise Wrong(f"{line(None, 'server')}there is no server; begin each with a line [[server]]")
-    seen = {}
+    seen: dict[tuple[str, str], int] = {}
     for place, row in enumerate(rows):
         check(row, OF_SERVER, NEEDED_OF_SERVER, line, place)
         for name in ("name", "from"):
@@ -144,7 +154,7 @@ def servers_of(rows, line):
     return [Server(row["name"], row["station"], row.get("first_card", 1), row["from"].rstrip("/") or "/") for row in rows]
 
 
-def parsed(path, text):
+def parsed(path: pathlib.Path, text: str) -> Fleet:
     """The fleet of a file's text."""
     try:
         settings = tomllib.loads(text)
@@ -156,7 +166,7 @@ def parsed(path, text):
     return Fleet(path, settings, servers_of(rows, line))
 
 
-def read(path):
+def read(path: str | pathlib.Path) -> Fleet:
     """The fleet of a file."""
     try:
         return parsed(pathlib.Path(path), pathlib.Path(path).read_text(encoding="utf-8"))

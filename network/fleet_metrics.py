@@ -3,8 +3,13 @@
 file, which is written whole. The file also has the values of the servers that failed this time, from earlier runs.
 """
 import os
+import pathlib
 import re
 import time
+from collections.abc import Iterable, Mapping
+from typing import TypeAlias
+
+from fleet_file import Fleet
 
 # The metrics of each act: the first one is the moment of a server's last success.
 METRICS = {
@@ -13,16 +18,20 @@ METRICS = {
     "check": {"bovtrila_network_checked_timestamp_seconds": "When the database last had no fault, and was as the server's "
                                                             "journals."},
     "audit": {"bovtrila_network_audited_timestamp_seconds": "When the server's journal was last audited and sound.",
-              "bovtrila_network_seal_changed": "1 if the last audit found other touches than those that were sealed before."}}
+              "bovtrila_network_seal_changed": "1 if the last audit found other touches than those that were sealed "
+                                               "before."}}
 VALUE = re.compile(r'^(\w+)\{server="([^"]+)",.*\} (\d+)$', re.M)
 
+# The values of metrics, by the metric and the server.
+Values: TypeAlias = dict[tuple[str, str], int]
 
-def path_of(fleet, act):
+
+def path_of(fleet: Fleet, act: str) -> pathlib.Path:
     """The file of an act."""
     return fleet.folder / "metrics" / f"bovtrila-network-{act}.prom"
 
 
-def values(path):
+def values(path: pathlib.Path) -> Values:
     """The values that a file has, by the metric and the server. A file that can't be read has none."""
     try:
         return {(name, server): int(number) for name, server, number in VALUE.findall(path.read_text())}
@@ -30,12 +39,12 @@ def values(path):
         return {}
 
 
-def label(text):
+def label(text: str) -> str:
     """The value of a label."""
     return text.replace("\\", r"\\").replace('"', r"\"")
 
 
-def text_of(fleet, act, known):
+def text_of(fleet: Fleet, act: str, known: Values) -> str:
     """The text of a file: each metric with a line for each server, 0 where nothing is known of it."""
     lines = []
     for name, words in METRICS[act].items():
@@ -45,7 +54,7 @@ def text_of(fleet, act, known):
     return "".join(f"{line}\n" for line in lines)
 
 
-def write(fleet, act, succeeded, **found):
+def write(fleet: Fleet, act: str, succeeded: Iterable[str], **found: Mapping[str, int]) -> None:
     """Writes the file of an act: the servers that succeeded now, and other metrics with their values by the server."""
     path, known = path_of(fleet, act), values(path_of(fleet, act))
     known.update({(next(iter(METRICS[act])), server): int(time.time()) for server in succeeded})

@@ -1,5 +1,9 @@
 # SPDX-License-Identifier: Apache-2.0
 """The table `gates` of the network's database: how it follows the touches, and how it is checked."""
+from typing import TypedDict
+
+from database import Database
+from fields import Breach, Stage
 
 COLUMNS = ("gate", "moment", "times_back")
 # The rows of a stage after further touches of a journal, those of the places from :first up to :end.
@@ -26,12 +30,18 @@ ORDER BY gate
 """
 
 
-def advance(base, journal, stage, first, end):
+class Gate(TypedDict):
+    """A gate, by its number at the server."""
+
+    gate: int
+
+
+def advance(base: Database, journal: int, stage: Stage, first: int, end: int) -> None:
     """Adds a journal's touches from a place on, up to another, to the gates of a stage."""
     base.execute(ADVANCE, journal=journal, stage=stage, first=first, end=end)
 
 
-def breaches(base, journal):
+def breaches(base: Database, journal: int) -> list[Breach]:
     """The gates whose rows were changed after the load, as the breaches that network/check finds."""
     return [(None, f"the row of gate {row['gate']} in gates was changed or removed after its load")
-            for row in base.rows(DIFFERENT, journal=journal)]
+            for row in base.rows(Gate, DIFFERENT, journal=journal)]

@@ -6,6 +6,11 @@ hledger finds a row of which one was changed without the other.
 """
 import collections
 import re
+from collections.abc import Iterable, Iterator, Mapping, Sequence
+from typing import TypeAlias, TypedDict
+
+from database import Database
+from fields import Fields, made
 
 # Each accepted touch of a card: what it does to the entry charges that are held, to fares and to maxima. `step` is what the
 # card's balance says that it changed. Whoever is inside has the charge of the touch in held, until the next touch in or out
@@ -53,22 +58,52 @@ CASH, CARDS, HELD = "assets:cash from top-ups", "liabilities:cards", "liabilitie
 TRANSFERS, FARES, MAXIMA = "equity:transfers", "income:fares", "income:maxima"
 
 
+# A posting: an account, pence, and the balance in pence that is asserted after it.
+Posting: TypeAlias = tuple[str, int, int | None]
+
+
+class JournalRow(TypedDict):
+    """A journal. `ends` is the last fare day of a closed one."""
+
+    journal: int
+    server: str
+    name: str
+    ends: str | None
+
+
+class SumsRow(TypedDict):
+    """The sums in pence of a fare day by journal and card. Card 0 is for all cards of the journal."""
+
+    day: str
+    journal: int
+    card: int
+    step: int
+    change: int
+    paid_in: int
+    transferred: int
+    held: int
+    fares: int
+    maxima: int
+
+
 class Journal:
     """A journal's accounts, and what the last day left in them."""
 
-    def __init__(self, row):
+    def __init__(self, row: JournalRow) -> None:
         self.name = f"{plain(row['server'])}:{plain(row['name'])}"
-        self.ends, self.held, self.cards = row["ends"], 0, collections.Counter()
+        self.ends, self.held = row["ends"], 0
+        self.cards: collections.Counter[int] = collections.Counter()
 
-    def card(self, card):
+    def card(self, card: int) -> str:
         """The account of a card, or of all the journal's cards."""
         return f"{CARDS}:{self.name}" + (f":{card}" if card else "")
 
-    def postings(self, rows):
+    def postings(self, rows: Iterable[SumsRow]) -> Iterator[Posting]:
         """The postings of a fare day: accounts, pence, and the balances that are asserted, or None."""
-        sums = collections.Counter()
+        sums: collections.Counter[str] = collections.Counter()
         for row in rows:
-            sums.update({name: row[name] for name in ("paid_in", "transferred", "held", "fares", "maxima")})
+            sums.update(paid_in=row["paid_in"], transferred=row["transferred"], held=row["held"], fares=row["fares"],
+                        maxima=row["maxima"])
             self.cards[row["card"]] += row["step"]
             yield self.card(row["card"]), -row["change"], -self.cards[row["card"]]
         self.held += sums["held"]
@@ -77,7 +112,7 @@ class Journal:
             if pence:
                 yield f"{account}:{self.name}", pence, None
 
-    def closing(self):
+    def closing(self) -> Iterator[Posting]:
         """The postings that empty a closed journal: the balances went into the next one, which begins no journey as
         inside. So an entry charge that is held stays a maximum."""
         for card, balance in sorted(self.cards.items()):
@@ -87,27 +122,26 @@ class Journal:
         yield f"{MAXIMA}:{self.name}", -self.held, None
 
 
-def plain(name):
+def plain(name: str) -> str:
     """A name as a part of an account: without what separates accounts, amounts and comments."""
     return re.sub(r"[:;]", "-", " ".join(name.split()))
 
 
-def pounds(pence):
+def pounds(pence: int) -> str:
     return f"GBP {'-' * (pence < 0)}{abs(pence) // 100}.{abs(pence) % 100:02}"
 
 
-def entry(day, words, postings):
+def entry(day: str, words: str, postings: Iterable[Posting]) -> Iterator[str]:
     """A transaction's lines."""
     yield f"\n{day} {words}\n"
     for account, pence, asserted in postings:
         yield f"    {account}  {pounds(pence)}" + ("\n" if asserted is None else f" = {pounds(asserted)}\n")
 
 
-def grouped(names, rows):
+def grouped(names: Sequence[str], rows: Iterable[Fields]) -> Iterator[list[SumsRow]]:
     """The rows of each fare day and journal."""
-    group = []
-    for values in rows:
-        row = dict(zip(names, values))
+    group: list[SumsRow] = []
+    for row in made(SumsRow, names, rows):
         if group and (group[0]["day"], group[0]["journal"]) != (row["day"], row["journal"]):
             yield group
             group = []
@@ -116,15 +150,15 @@ def grouped(names, rows):
         yield group
 
 
-def lines(base, by_card):
+def lines(base: Database, by_card: bool) -> Iterator[str]:
     """The ledger's lines."""
-    journals = {row["journal"]: Journal(row) for row in base.rows(JOURNALS)}
+    journals = {row["journal"]: Journal(row) for row in base.rows(JournalRow, JOURNALS)}
     yield HEAD
     for journal in journals.values():
         for account in (CASH, CARDS, HELD, TRANSFERS, FARES, MAXIMA):
             yield f"account {account}:{journal.name}\n"
     names, rows = base.stream(base.own(SUMS.format(card="card" if by_card else "0")))
-    last = None
+    last: str | None = None
     for group in grouped(names, rows):
         day, journal = group[0]["day"], journals[group[0]["journal"]]
         if last not in (None, day):
@@ -136,7 +170,7 @@ def lines(base, by_card):
     yield from closed(journals, last)
 
 
-def closed(journals, day):
+def closed(journals: Mapping[int, Journal], day: str | None) -> Iterator[str]:
     """The transactions of the journals that end with a day."""
     for journal in journals.values():
         if day is not None and journal.ends == day:

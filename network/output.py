@@ -3,13 +3,16 @@
 all."""
 import contextlib
 import os
+import pathlib
 import sys
+from collections.abc import Callable, Iterator
+from typing import IO
 
 # The status of a program that SIGPIPE ends.
 NO_READER = 141
 
 
-def run(main):
+def run(main: Callable[[], None]) -> None:
     """Runs a command. If nobody reads its output any more, the command ends with the status 141 and prints nothing."""
     try:
         try:
@@ -23,7 +26,7 @@ def run(main):
 
 
 @contextlib.contextmanager
-def whole(path):
+def whole(path: pathlib.Path) -> Iterator[IO[str]]:
     """A file that replaces the one of this path once it is whole and on the disk. Whatever ends this process earlier, or
     fails, leaves the old one."""
     new = path.with_name(f"{path.name}.new")

@@ -8,6 +8,8 @@ import itertools
 import re
 import shutil
 import tempfile
+from collections.abc import Iterator
+from typing import IO, TypedDict
 
 import commands
 
@@ -18,7 +20,16 @@ FAR = 12
 PIECE = 1 << 20
 
 
-def days_of(text):
+class Revision(TypedDict):
+    """A row of the table `revisions`. first_day is in days since 1970-01-01."""
+
+    place: int
+    digest: str
+    first_day: int
+    verdict: str
+
+
+def days_of(text: str) -> int:
     """The days from 1970-01-01 to a day of `history`: a date of any year, or that number itself."""
     match = re.fullmatch(r"(-\d+|\d{4})-(\d\d)-(\d\d)", text)
     if not match:
@@ -29,7 +40,7 @@ def days_of(text):
     return (datetime.date(year + 1, month, day) - EPOCH).days + 146_097 * cycles
 
 
-def month_of(day):
+def month_of(day: str) -> int:
     """The months from year 0 to that of a date."""
     return 12 * int(day[:4]) + int(day[5:7])
 
@@ -37,9 +48,12 @@ def month_of(day):
 class Rows:
     """The touches of a journal from a place on, up to the one that its seal ends with."""
 
-    def __init__(self, file, first, end):
+    def __init__(self, file: IO[str], first: int, end: int) -> None:
         self.file, self.first, self.end = file, first, end
-        self.days, self.counts, self.revisions = {}, collections.Counter(), []
+        # By month, as 2025-01: a day of it, and how many touches it has.
+        self.days: dict[str, str] = {}
+        self.counts: collections.Counter[str] = collections.Counter()
+        self.revisions: list[Revision] = []
         for line in self.lines():
             fields = line.split(",", 8)
             day = fields[2]
@@ -50,21 +64,21 @@ class Rows:
             self.days[day[:7]] = day
             self.counts[day[:7]] += 1
 
-    def lines(self):
+    def lines(self) -> Iterator[str]:
         """The lines of these touches, after the heading and the touches before them."""
         self.file.seek(0)
         return itertools.islice(self.file, 1 + self.first, 1 + self.end)
 
-    def near_days(self):
+    def near_days(self) -> list[str]:
         """A day of each month that is near the middle one of these touches."""
-        middle, count = None, 0
+        middle, count = "", 0
         for month in sorted(self.counts):
             if 2 * count <= self.end - self.first:
                 middle = self.days[month]
             count += self.counts[month]
         return [day for _, day in sorted(self.days.items()) if abs(month_of(day) - month_of(middle)) <= FAR]
 
-    def of_journal(self, journal):
+    def of_journal(self, journal: int) -> Iterator[str]:
         """The rows of the table `touches`, as comma-separated values. A revision has card 0, which is no card's number."""
         for line in self.lines():
             if ",revision," in line:
@@ -74,7 +88,7 @@ class Rows:
 
 
 @contextlib.contextmanager
-def copied(journal):
+def copied(journal: str) -> Iterator[commands.Inherited]:
     """A copy of a journal: its path, and the descriptor that its readers have to inherit. The file has no name, so whatever
     ends this process removes it."""
     with tempfile.TemporaryFile() as copy, commands.opened(journal) as file:
@@ -84,7 +98,7 @@ def copied(journal):
 
 
 @contextlib.contextmanager
-def history(name, journal, tables):
+def history(name: str, journal: commands.Inherited, tables: commands.Tables) -> Iterator[io.TextIOWrapper]:
     """What `history` writes of a journal, in a file that has no name."""
     with tempfile.TemporaryFile() as file:
         words = commands.words_of_tables(journal, tables)

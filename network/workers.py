@@ -9,14 +9,29 @@ import contextlib
 import logging
 import os
 import sys
+from collections.abc import Mapping
+from typing import Protocol, TypeAlias
 
 import commands
 
 # What Dask's configuration has to name for an address tls://..
 CERTIFICATES = ("ca-file", "client.cert", "client.key")
 
+# The arguments of commands.audited, and what it found, by the servers.
+Arguments: TypeAlias = tuple[str, str, commands.Tables, str, Mapping[str, list[commands.Seal]]]
+Tasks: TypeAlias = Mapping[str, Arguments]
+Findings: TypeAlias = dict[str, commands.Finding]
 
-def in_pool(tasks, count):
+
+class Future(Protocol):
+    """What is used of a task that was given to Dask, which names no types."""
+
+    def exception(self) -> Exception | None: ...
+
+    def result(self) -> commands.Finding: ...
+
+
+def in_pool(tasks: Tasks, count: int | None) -> Findings:
     """The results of tasks, each the arguments of commands.audited, on so many threads; one for each processor by itself."""
     found = {}
     with concurrent.futures.ThreadPoolExecutor(count or os.cpu_count()) as pool:
@@ -28,7 +43,7 @@ def in_pool(tasks, count):
     return {name: found[name] for name in tasks}
 
 
-def on_scheduler(tasks, address, patience):
+def on_scheduler(tasks: Tasks, address: str, patience: int) -> Findings:
     """The same on the workers of a scheduler that runs. The certificates of an address tls://.. are those of Dask's
     configuration."""
     import dask
@@ -40,7 +55,8 @@ def on_scheduler(tasks, address, patience):
     distributed.protocol.pickle.cloudpickle.register_pickle_by_value(commands)
     with distributed.Client(address, timeout=patience) as client:
         logging.getLogger("distributed").setLevel(logging.CRITICAL)
-        futures = {name: client.submit(commands.audited, *arguments, pure=False) for name, arguments in tasks.items()}
+        futures: dict[str, Future] = {name: client.submit(commands.audited, *arguments, pure=False)
+                                      for name, arguments in tasks.items()}
         with contextlib.redirect_stdout(sys.stderr):
             distributed.progress(list(futures.values()), notebook=False)
             print()
@@ -48,7 +64,7 @@ def on_scheduler(tasks, address, patience):
         distributed.wait([*futures.values()])
         # Where several workers died, Dask gives up all that waited on them: so each of those is asked for again, by itself.
         # What it finds is fetched at once: a worker holds it, and a task behind it may cost that worker its life.
-        found = {}
+        found: Findings = {}
         for name in tasks:
             future = futures.pop(name)
             if isinstance(future.exception(), distributed.KilledWorker):
@@ -57,7 +73,7 @@ def on_scheduler(tasks, address, patience):
         return found
 
 
-def result_of(future):
+def result_of(future: Future) -> commands.Finding:
     """What a task found, or how it was lost."""
     error = future.exception()
     return future.result() if error is None else {"fault": f"its task was lost: {type(error).__name__}: {error}"}

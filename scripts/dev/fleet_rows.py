@@ -1,6 +1,7 @@
 """A network's database of many servers for scripts/dev/measure-network, whose sound rows PostgreSQL itself makes."""
 import contextlib
 import sys
+from typing import TypedDict
 
 from harness import TOP
 
@@ -48,15 +49,27 @@ INSERT INTO touches
 """
 
 
-def make(name, servers, touches, days):
+class Table(TypedDict):
+    """The fare table of all servers."""
+
+    digest: str
+
+
+class Journal(TypedDict):
+    """The journal of a server."""
+
+    journal: int
+
+
+def make(name: str, servers: int, touches: int, days: int) -> None:
     """Fills an empty database."""
-    with contextlib.closing(database.connect(name)) as base:
+    with contextlib.closing(database.Postgres(name)) as base:
         base.make_tables()
         content = TABLE.encode()
         rows = ROWS.format(servers=servers, touches=touches, days=days, cards=CARDS, first=FIRST, stations=STATIONS)
-        base.connection.cursor().execute(rows.replace("%", "%%").replace("%%(content)s", "%(content)s"), {"content": content})
-        fares.keep_stations(base, base.row("SELECT digest FROM fare_tables")["digest"], content)
-        for row in base.rows("SELECT journal FROM journals ORDER BY journal"):
+        base.cursor().execute(rows.replace("%", "%%").replace("%%(content)s", "%(content)s"), {"content": content})
+        fares.keep_stations(base, base.one(Table, "SELECT digest FROM fare_tables")["digest"], content)
+        for row in base.rows(Journal, "SELECT journal FROM journals ORDER BY journal"):
             unlike = accounts.advance(base, row["journal"], "loaded", 0)
             if unlike:
                 sys.exit(f"measure-network: the rows of card {unlike['card']} are wrong: {unlike}")

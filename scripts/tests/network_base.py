@@ -156,12 +156,12 @@ def everything(name):
     tables without rows don't: a load makes them before it begins."""
     with contextlib.closing(database.connect(name)) as base:
         if isinstance(base, database.Postgres):
-            tables = base.rows("SELECT relname AS name FROM pg_class WHERE relkind IN ('r', 'p')"
-                               " AND relnamespace = current_schema()::regnamespace")
+            tables = base.table("SELECT relname FROM pg_class WHERE relkind IN ('r', 'p')"
+                                " AND relnamespace = current_schema()::regnamespace")[1]
         else:
-            tables = base.rows("SELECT name FROM sqlite_master WHERE type = 'table'")
+            tables = base.table("SELECT name FROM sqlite_master WHERE type = 'table'")[1]
         found = {}
-        for table in sorted(row["name"] for row in tables):
+        for table in sorted(str(name) for name, in tables):
             columns, rows = base.table(f"SELECT * FROM {table}")
             keep = [place for place, column in enumerate(columns) if column != "loaded"]
             found[table] = sorted((tuple(row[place] for place in keep) for row in rows), key=repr)

@@ -132,7 +132,7 @@ class Queries:
                     opened.begin()
                     for change in changes:
                         opened.execute(change)
-                    journal = opened.row("SELECT journal FROM journals WHERE server = 'birch-1'")["journal"]
+                    [(journal,)] = opened.table("SELECT journal FROM journals WHERE server = 'birch-1'")[1]
                     found = accounts.check(opened, journal, everything=True)
                 self.assertIn(breach, {row[1] for row in found})
 
