@@ -34,8 +34,6 @@ OVER_TLS = ("Asked", "Gates", "Median of an answer, us", "Through TLS 2", "99th 
 FILES = ("Asked", "Gates", "Median of an answer, us", "By load.c 2")
 AUDITED = ("the opening", "`replay`", "`verify`", "`verify --seal`", "`balances`", "`history`")
 ON_A_DISK, SHARED = "touches, journal on a disk", "touch, files on the server's disk"
-LOADED = "loading a day, minutes of a processor"
-JUDGED = "`verify` and `balances` of all journals once full, minutes of a processor"
 
 EXCERPTS = {
     "answers": Excerpt(("A flush takes", "A second, 1 gate", "99 % within, ms", "A second, 8 gates", "99 % within, ms",
@@ -44,17 +42,10 @@ EXCERPTS = {
                              (("stored-on-disk", "as on this disk"), ("stored-10-ms", "10 ms")))),
     "opened": Excerpt(("Command", "Seconds", "Memory, MiB"),
                       (Rows("audits", ("Command", "Seconds", "MiB at most"), tuple((key,) for key in AUDITED)),)),
-    "memory-taken": Excerpt(("Memory of the server", "Bytes"), (Rows("memory", ("Memory of the server", "Bytes")),)),
     "over-tls": Excerpt(("Asked", "Gates", "Median, us", "Through TLS", "99 % within, us", "Through TLS"),
                         (Rows("tls", OVER_TLS, (("enquiries", "1"), (ON_A_DISK, "1"), (ON_A_DISK, "8"))),)),
     "gate-files": Excerpt(("Asked", "Gates", "Median with the library, us", "Without a gate's file"),
                           (Rows("gates", FILES, (("enquiry", "1"), ("touch, files in memory", "1"), (SHARED, "1"))),)),
-    "servers": Excerpt(("Servers", "Touches a second", "To one server"),
-                       (Rows("fleet", ("Servers", "A second", "To one server")),)),
-    "network-queries": Excerpt(("Command", "Seconds", "Memory, MB"),
-                               (Rows("queries", ("Of 40 servers with 140,000 touches each", "Seconds", "Memory, MB")),)),
-    "network-day": Excerpt(("400 servers with 100,000 touches a day each", "Calculated"),
-                           (Rows("paper", ("400 servers with 100,000 touches a day each", "On paper"), ((LOADED,), (JUDGED,))),)),
 }
 
 

@@ -1,4 +1,4 @@
-"""The tables of docs/PERFORMANCE.md: each has the rows and columns of docs/MEASUREMENTS.md that scripts/dev/excerpts.py names."""
+"""The tables of docs/PERFORMANCE.md that scripts/dev/excerpts.py names: each has rows and columns of docs/MEASUREMENTS.md."""
 import contextlib
 import io
 import unittest
@@ -23,7 +23,12 @@ class Excerpts(unittest.TestCase):
 
     def test_the_tables_for_users_are_those_of_the_measurements(self):
         page, measured = ((TOP / "docs" / name).read_text() for name in ("PERFORMANCE.md", "MEASUREMENTS.md"))
-        self.assertEqual(excerpts.excerpts(measured), measuring.tables(page), "run scripts/dev/measure-all --excerpts")
+        shown = {name: lines for name, lines in measuring.tables(page).items() if name in excerpts.EXCERPTS}
+        self.assertEqual(excerpts.excerpts(measured), shown, "run scripts/dev/measure-all --excerpts")
+
+    def test_no_table_is_on_both_pages(self):
+        page, measured = ((TOP / "docs" / name).read_text() for name in ("PERFORMANCE.md", "MEASUREMENTS.md"))
+        self.assertEqual(measuring.tables(page).keys() & measuring.tables(measured).keys(), set())
 
     def test_rows_by_their_first_cells_and_columns_by_their_heads(self):
         columns = ("Asked", "Gates", "Through TLS", "Through TLS 2")
