@@ -15,7 +15,7 @@ from collections.abc import Callable, Iterable, Iterator, Mapping, Sequence
 from typing import IO, ClassVar
 
 try:
-    import psycopg2
+    import psycopg2 as psycopg2
     from psycopg2 import extensions
 except ImportError:
     # SQLite needs nothing but Python.

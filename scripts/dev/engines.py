@@ -1,21 +1,25 @@
 """Servers that store touches in PostgreSQL, Redis and SQLite (bench/engine_server.c), and the engines that they need: for
 scripts/dev/measure-flushes."""
+from __future__ import annotations
+
+import pathlib
 import shutil
 import signal
 import socket
 import subprocess
 import tempfile
 import time
+from collections.abc import Sequence
 
 import postgres
 from harness import free_port
-from servers import PATIENCE, Server
+from servers import PATIENCE, Bench, Server
 
 # What bench/engine_server.c is built with: the Debian packages and their libraries.
 LIBRARIES = {"libpq-dev": "libpq", "libsqlite3-dev": "sqlite3"}
 
 
-def why_not():
+def why_not() -> str | None:
     """Why the engines can't be measured here, or None."""
     if why := postgres.why_not():
         return why
@@ -28,7 +32,7 @@ def why_not():
     return None
 
 
-def build(bench):
+def build(bench: Bench) -> None:
     """Builds the server that stores touches in an engine."""
     said = subprocess.run(["pkg-config", "--cflags", "--libs", *LIBRARIES.values()], check=True, text=True,
                           stdout=subprocess.PIPE).stdout
@@ -39,10 +43,10 @@ class Redis:
     """A running Redis with a folder of its own. Each command is flushed before it is answered, and its file isn't written
     anew meanwhile."""
 
-    def __init__(self, below, before):
+    def __init__(self, below: pathlib.Path, before: Sequence[str]) -> None:
         self.folder, self.port = tempfile.mkdtemp(prefix="redis-", dir=below), free_port()
-        words = ["redis-server", "--port", self.port, "--bind", "127.0.0.1", "--dir", self.folder, "--appendonly", "yes",
-                 "--appendfsync", "always", "--auto-aof-rewrite-percentage", 0, "--save", ""]
+        words: list[str | int] = ["redis-server", "--port", self.port, "--bind", "127.0.0.1", "--dir", self.folder, "--appendonly", "yes",
+                                  "--appendfsync", "always", "--auto-aof-rewrite-percentage", 0, "--save", ""]
         self.process = subprocess.Popen([str(word) for word in (*before, *words)], stdin=subprocess.DEVNULL,
                                         stdout=subprocess.DEVNULL, start_new_session=True)
         limit = time.monotonic() + PATIENCE
@@ -55,7 +59,7 @@ class Redis:
                     raise RuntimeError("redis-server takes no connection") from None
                 time.sleep(0.05)
 
-    def stop(self):
+    def stop(self) -> None:
         self.process.send_signal(signal.SIGTERM)
         try:
             self.process.wait(PATIENCE)
@@ -68,10 +72,13 @@ class Redis:
 class Engines:
     """PostgreSQL and Redis with their files below a folder, as long as it is entered, and a file for SQLite there."""
 
-    def __init__(self, bench, below, before):
-        self.bench, self.below, self.before, self.running = bench, below, before, []
+    def __init__(self, bench: Bench, below: pathlib.Path, before: Sequence[str]) -> None:
+        self.bench, self.below, self.before = bench, below, before
+        self.running: list[postgres.Cluster | Redis] = []
+        # By engine, what its client is given: a connection string, a port or a file.
+        self.places: dict[str, str | int | pathlib.Path] = {}
 
-    def __enter__(self):
+    def __enter__(self) -> Engines:
         # Debian's settings have synchronous_commit=on and fsync=on.
         cluster = postgres.Cluster(self.below, [*self.bench.before, *self.before])
         self.running.append(cluster)
@@ -80,11 +87,11 @@ class Engines:
         self.places = {"postgresql": cluster.database("measured"), "redis": redis.port, "sqlite": self.below / "touches.db"}
         return self
 
-    def __exit__(self, *_):
+    def __exit__(self, *_: object) -> None:
         for each in self.running:
             each.stop()
 
-    def server(self, name, connections):
+    def server(self, name: str, connections: int) -> Server:
         """Starts a server for so many connections that stores touches in the engine of this name, which has none yet."""
-        words = [self.bench.folder / "engine_server", name, self.places[name], connections, 2]
+        words: list[object] = [self.bench.folder / "engine_server", name, self.places[name], connections, 2]
         return Server([*self.bench.before, *self.before, *words])

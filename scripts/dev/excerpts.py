@@ -5,6 +5,7 @@ pages, and `scripts/dev/measure-all --excerpts` this one alone.
 A column is named by its head in the table of the measurements. Where heads are equal, a number follows: `Through TLS 2` is
 the second of them."""
 import typing
+from collections.abc import Iterator, Mapping, Sequence
 
 import measuring
 
@@ -17,15 +18,15 @@ class Rows(typing.NamedTuple):
     """Rows of a table of the measurements: those whose cells begin with one of `keys`, or all. `label` replaces the first
     cell."""
     table: str
-    columns: tuple
-    keys: tuple = ()
+    columns: tuple[str, ...]
+    keys: tuple[tuple[str, ...], ...] = ()
     label: str = ""
 
 
 class Excerpt(typing.NamedTuple):
     """A table for users: its heads, and the rows that it takes from the measurements."""
-    heads: tuple
-    rows: tuple
+    heads: tuple[str, ...]
+    rows: tuple[Rows, ...]
 
 
 FLUSHES = ("Touches stored by", "A second, 1 gate", "99th percentile, ms", "A second, 8 gates", "99th percentile, ms 2",
@@ -49,12 +50,12 @@ EXCERPTS = {
 }
 
 
-def cells(line):
+def cells(line: str) -> list[str]:
     """The cells of a table's line."""
     return [cell.strip() for cell in line.strip().strip("|").split("|")]
 
 
-def places(heads, names, table):
+def places(heads: Sequence[str], names: Sequence[str], table: str) -> list[int]:
     """Where the columns with these names are."""
     found = []
     for name in names:
@@ -66,7 +67,7 @@ def places(heads, names, table):
     return found
 
 
-def taken(rows, tables):
+def taken(rows: Rows, tables: Mapping[str, list[str]]) -> Iterator[list[str]]:
     """The lines that an excerpt takes from one table."""
     if len(lines := tables.get(rows.table, [])) < 3:
         raise Wrong(f"the measurements have no table '{rows.table}'")
@@ -81,7 +82,7 @@ def taken(rows, tables):
             yield [rows.label, *shown[1:]] if rows.label else shown
 
 
-def excerpts(measured):
+def excerpts(measured: str) -> dict[str, list[str]]:
     """The tables for users, by their names, of the page of the measurements."""
     tables = measuring.tables(measured)
     return {name: [measuring.line(excerpt.heads), "|" + "---|" * len(excerpt.heads),

@@ -41,7 +41,7 @@ FACTS: dict[str, tuple[Place | Read, list[Place]]] = {
     "verdicts": (
         Place("crates/oyster_account/src/verdict.rt", r"(?:Acceptance|Refusal)::(?P<name>\w+) => (?P<code>\d+),"), [
             Place("crates/oyster_account/src/verdict.rt", r'(?P<code>\d+) => Some\("(?P<name>\w+)"\)'),
-            Place("scripts/model.py", IN_PYTHON, **braces("VERDICTS =")),
+            Place("scripts/model.py", IN_PYTHON, *braces("VERDICTS =")),
             Place("network/schema.sql", r"'(?P<name>\w+)'", r"CREATE TYPE verdict AS ENUM", r";"),
         ]),
     "faults of a session": (
@@ -62,7 +62,7 @@ FACTS: dict[str, tuple[Place | Read, list[Place]]] = {
         ]),
     "acts of a history": (
         Read("the definitions of a history's rows", lambda top: [(None, act.word) for act in fact_frames.acts(top)]), [
-            Place("scripts/model.py", r'"(?P<name>[\w-]+)"', **braces("ACTS =")),
+            Place("scripts/model.py", r'"(?P<name>[\w-]+)"', *braces("ACTS =")),
             Place("network/schema.sql", r"'(?P<name>[\w-]+)'", r"CREATE TYPE act AS ENUM", r";"),
         ]),
     **{f"verdicts of act {word}": (

@@ -5,7 +5,6 @@ import re
 
 import fact_code
 from fact_code import Wrong, text_of
-from fact_places import Place
 from fact_specs import Definitions, Field
 
 TOUCH, FRAME = "crates/oyster_account/src/touch.rt", "crates/gate_session/src/frame.rt"

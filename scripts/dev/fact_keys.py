@@ -36,8 +36,8 @@ def constants(text: str) -> dict[str, str]:
 
 def resolved(known: dict[str, str], shape: str, given: str) -> tuple[str, tuple[int, ...]]:
     """The name of a shape and its limits, by the constants."""
-    shape, given = re.fullmatch(r"([\w:]+)(?:\((.*)\))?", known.get(shape, f"{shape}({given})")).groups()
-    numbers = (known.get(part, part).replace("_", "") for part in re.findall(r"\w+", given or ""))
+    shape, _, given = known.get(shape, f"{shape}({given})").partition("(")
+    numbers = (known.get(part, part).replace("_", "") for part in re.findall(r"\w+", given))
     return shape.removeprefix("Shape::"), tuple(map(int, numbers))
 
 

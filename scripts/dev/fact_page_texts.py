@@ -41,9 +41,9 @@ def of_faults(top: pathlib.Path) -> list[Region]:
     """The lines of faults. Each is in a table."""
     lines = {program: fact_faults.faults(top, program) for program in fact_faults.PROGRAMS}
     listed = {(program, word) for program, words in FAULTS.values() for word in words} | {("gate_send", word) for word in SHARED}
-    for program, line in ((program, line) for program, own in lines.items() for line in own):
-        if (program, line.split()[1]) not in listed:
-            raise Wrong(f"no table has the line '{line}' of {program}; add it to FAULTS in scripts/dev/fact_page_texts.py")
+    for of, line in ((of, line) for of, own in lines.items() for line in own):
+        if (of, line.split()[1]) not in listed:
+            raise Wrong(f"no table has the line '{line}' of {of}; add it to FAULTS in scripts/dev/fact_page_texts.py")
     supply = fact_faults.lines(fact_faults.displayed(top), "SupplyFault")
     return [Region(TABLE, "faults of revised tables", ("Fault | Is printed if", *(f"`{text}`" for text in supply)), by_hand=1)] + [
         Region(file, name, ("Line | Cause | What to do",

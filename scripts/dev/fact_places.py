@@ -53,6 +53,6 @@ def value_of(match: re.Match[str], group: str) -> Value:
     return text.title().replace("_", "") if text.isupper() else text
 
 
-def braces(head: str) -> dict[str, str]:
+def braces(head: str) -> tuple[str, str]:
     """The beginning and the end of what is in the braces after this text."""
-    return {"begin": re.escape(head) + r" \{", "end": r"\}"}
+    return re.escape(head) + r" \{", r"\}"

@@ -1,7 +1,6 @@
 """The marked regions of a tree: the lines between a comment `generated: NAME` and a comment `end: NAME`.
 
 A table's last columns may be written by hand. They stay as they are, by the first cell of their row."""
-import collections.abc
 import dataclasses
 import difflib
 import pathlib

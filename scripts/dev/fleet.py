@@ -1,19 +1,26 @@
 """Several servers on one disk, each with its own gates: for scripts/dev/measure-serve."""
-import collections
 import contextlib
 import os
 import pathlib
+from typing import NamedTuple
 
-from servers import Figures
+from servers import Bench, Figures
 
-Load = collections.namedtuple("Load", "rate flushes")
+
+class Load(NamedTuple):
+    """The touches a second, and the disk's flushes a touch."""
+
+    rate: float
+    flushes: float
+
+
 # A journal's header, its slots and the mark behind the last one, in bytes (docs/OPERATING.md, "Room on the disk").
 HEADER, SLOT, END = 64, 64, 1
 # Where the statistics of a disk have how many flushes it has ended.
 FLUSHES = 15
 
 
-def flushes(folder):
+def flushes(folder: pathlib.Path) -> int | None:
     """How many flushes the disk of a folder has ended so far, or None where the system doesn't count them."""
     device = os.stat(folder).st_dev
     below = pathlib.Path(f"/sys/dev/block/{os.major(device)}:{os.minor(device)}")
@@ -26,7 +33,7 @@ def flushes(folder):
     return None
 
 
-def made_ahead(bench, journal, capacity):
+def made_ahead(bench: Bench, journal: pathlib.Path, capacity: int) -> None:
     """Makes a journal, and takes its whole room on the disk."""
     with bench.bovtrila(1, journal=journal, capacity=capacity) as server:
         server.let_go()
@@ -35,7 +42,7 @@ def made_ahead(bench, journal, capacity):
         os.fsync(file.fileno())
 
 
-def loaded(bench, servers, gates, capacity, has_room):
+def loaded(bench: Bench, servers: int, gates: int, capacity: int, has_room: bool) -> Load:
     """The touches a second over all of so many servers, with so many gates each, and the disk's flushes a touch."""
     journals = [bench.folder / f"journal-{place}" for place in range(servers)]
     for journal in journals:
@@ -55,5 +62,5 @@ def loaded(bench, servers, gates, capacity, has_room):
     for journal in journals:
         journal.unlink()
     touches = sum(of.requests + gates for of in figures)
-    each = (after - before) / touches if before is not None else float("nan")
+    each = (after - before) / touches if before is not None and after is not None else float("nan")
     return Load(sum(of.rate for of in figures), each)

@@ -13,8 +13,11 @@ import statistics
 import subprocess
 import sys
 import time
+from collections.abc import Callable, Iterable, Iterator, Sequence
+from typing import NamedTuple, TypeAlias, TypeVar
 
 import callgrind
+from servers import Bench, Server
 
 # The numbers of the calls on x86_64.
 SENDTO, RECVFROM, PWRITE, FDATASYNC, FUTEX = 44, 45, 18, 75, 202
@@ -25,12 +28,23 @@ SAMPLE = re.compile(r"\s*[0-9a-f]+ (.*) \((.*)\)$")
 # How many seconds of calls are noted, how many are sampled, and how many touches are asked meanwhile at most.
 NOTED, SAMPLED, MOST = 0.05, 1, 900_000
 
-# Nanoseconds: from having the request and the lock to the first write; the journal's calls; from there to the next call.
-# And how many calls of futex there were.
-Touch = collections.namedtuple("Touch", "before calls after waits")
+# A call of the system: its nanosecond, whether it begins, and its number; and the same with its thread before it.
+Call: TypeAlias = tuple[int, bool, int]
+Event: TypeAlias = tuple[int, int, bool, int]
+Seen = TypeVar("Seen")
 
 
-def why_not():
+class Touch(NamedTuple):
+    """Nanoseconds: from having the request and the lock to the first write; the journal's calls; from there to the next
+    call. And how many calls of futex there were. Of a touch, or the medians of many with the mean of these calls."""
+
+    before: float
+    calls: float
+    after: float
+    waits: float
+
+
+def why_not() -> str | None:
     """Why it can't be told here, or None."""
     if os.uname().machine != "x86_64":
         return "the processor isn't x86_64"
@@ -40,7 +54,7 @@ def why_not():
     return "perf may not note calls (as root it may)" if tried.returncode != 0 else None
 
 
-def events(bench, process):
+def events(bench: Bench, process: int) -> list[Event]:
     """The calls of a process for some time: of each its thread, the nanosecond, whether it begins, and its number."""
     noted = bench.folder / "calls"
     subprocess.run(["perf", "record", "-q", "-m", "4096", "-e", EVENTS, "-p", str(process), "-o", noted, "--", "sleep",
@@ -52,18 +66,18 @@ def events(bench, process):
             for thread, seconds, rest, which, call in found]
 
 
-def touches(found):
+def touches(found: Iterable[Event]) -> Iterator[Touch]:
     """Each touch whose calls were all noted."""
-    threads = collections.defaultdict(list)
+    threads: dict[int, list[Call]] = collections.defaultdict(list)
     for thread, moment, begins, call in found:
         threads[thread].append((moment, begins, call))
     for calls in threads.values():
         yield from touches_of(calls)
 
 
-def touches_of(calls):
+def touches_of(calls: Iterable[Call]) -> Iterator[Touch]:
     """The touches of one thread, by its calls."""
-    seen = []
+    seen: list[Call] = []
     for moment, begins, call in calls:
         if call == RECVFROM and not begins:
             seen = [(moment, begins, call)]
@@ -75,7 +89,7 @@ def touches_of(calls):
             seen = []
 
 
-def touch_of(calls):
+def touch_of(calls: Sequence[Call]) -> Touch:
     """A touch, from the end of the call that brought it to the begin of the one that answers it."""
     first = next(place for place, (_, _, call) in enumerate(calls) if call == PWRITE)
     last = max(place for place, (_, _, call) in enumerate(calls) if call == FDATASYNC)
@@ -84,7 +98,7 @@ def touch_of(calls):
                  sum(begins and call == FUTEX for _, begins, call in calls))
 
 
-def amid(bench, start, connections, look):
+def amid(bench: Bench, start: Callable[[int], Server], connections: int, look: Callable[[Bench, int], Seen]) -> Seen:
     """What a look at a server's process gives while touches are asked."""
     with start(connections) as server:
         load = bench.load(server, "touch", connections, seconds=30, most=MOST)
@@ -95,10 +109,10 @@ def amid(bench, start, connections, look):
     return seen
 
 
-def shares(bench, process):
+def shares(bench: Bench, process: int) -> dict[str, float]:
     """How a process's time of the processor is shared, in per cent: by the program's crates, the C library and the
     system, as perf finds it 4,000 times a second."""
-    noted, found = bench.folder / "samples", collections.Counter()
+    noted, found = bench.folder / "samples", collections.Counter[str]()
     subprocess.run(["perf", "record", "-q", "-F", "4000", "-e", "cpu-clock", "-p", str(process), "-o", noted, "--", "sleep",
                     str(SAMPLED)], check=True, stdout=subprocess.DEVNULL, stderr=subprocess.DEVNULL)
     said = subprocess.run(["perf", "script", "-i", noted, "-F", "ip,sym,dso"], check=True, text=True, stdout=subprocess.PIPE,
@@ -110,10 +124,10 @@ def shares(bench, process):
     return {name: 100 * count / found.total() for name, count in found.items()}
 
 
-def held(bench, start, connections):
+def held(bench: Bench, start: Callable[[int], Server], connections: int) -> Touch:
     """The medians over the touches of a load: nanoseconds, and the mean of the calls of futex."""
     found = list(touches(amid(bench, start, connections, events)))
     if not found:
         sys.exit("measure-serve: perf noted no whole touch")
-    middle = [statistics.median(getattr(touch, name) for touch in found) for name in ("before", "calls", "after")]
-    return Touch(*middle, statistics.mean(touch.waits for touch in found))
+    return Touch(statistics.median(touch.before for touch in found), statistics.median(touch.calls for touch in found),
+                 statistics.median(touch.after for touch in found), statistics.mean(touch.waits for touch in found))

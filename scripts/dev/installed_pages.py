@@ -2,6 +2,7 @@
 one of the sources."""
 import pathlib
 import re
+from collections.abc import Callable, Collection, Iterable, Iterator, Mapping
 
 import installed
 
@@ -10,20 +11,21 @@ NAME = re.compile(r"(?<![\w/])[A-Z_]+\.md\b")
 PLACE = re.compile(r"/usr/share/bovtrila/[\w./-]*\w")
 
 
-def pages():
+def pages() -> dict[str, str]:
     """The texts of the installed pages, by their names."""
     return {file.name: installed.page(file.read_text(), package) for package in installed.LISTS
             for file, place in installed.rows(package) if place.startswith(DOC) and file.suffix == ".md"}
 
 
-def is_of_sources(text, path):
+def is_of_sources(text: str, path: str) -> bool:
     """Whether a text says where it first names a path that it is one of the sources, and it is."""
     first = re.search(rf"(?<![\w/.]){re.escape(path)}/?(?![\w/])[^`\n]*?`? of the\s+sources", text)
     found = installed.TOP / path
     return bool(first) and (found.exists() or any((installed.TOP / folder / path).exists() for folder in (".", "docs")))
 
 
-def faults(name, texts, cited, own, sections, headings):
+def faults(name: str, texts: Mapping[str, str], cited: re.Pattern[str], own: re.Pattern[str],
+           sections: Callable[[re.Match[str]], Iterable[str]], headings: Callable[[str], Collection[str]]) -> Iterator[str]:
     """What a page cites that isn't there, by what reads a citation, one of the page itself, its sections, and the headings of
     a text."""
     text, places = texts[name], [f"/{place}" for package in installed.LISTS for _, place in installed.rows(package)]

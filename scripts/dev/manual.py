@@ -7,6 +7,13 @@ import json
 import re
 import subprocess
 import textwrap
+from collections.abc import Iterable, Sequence
+from typing import Any, TypeAlias
+
+# A block or an inline, as pandoc has it in JSON: `t` is its kind, and what `c` has goes by the kind. And a cell of a table.
+Block: TypeAlias = dict[str, Any]
+Inline: TypeAlias = dict[str, Any]
+Cell: TypeAlias = list[Inline]
 
 # How wide a table is that stands as lines, within the indentation of a manual page, and its widest column at least.
 WIDTH, LEAST = 68, 24
@@ -14,41 +21,46 @@ WIDTH, LEAST = 68, 24
 PART = '.\\" end of a page'
 
 
-def pandoc(given, *words):
+def pandoc(given: str, *words: str) -> str:
     done = subprocess.run(["pandoc", *words], input=given, capture_output=True, text=True, check=True)
     return done.stdout
 
 
-def parsed(text):
+def parsed(text: str) -> list[Block]:
     """The blocks of a Markdown text, without its pictures: a terminal has none."""
     return [block for block in json.loads(pandoc(text, "-f", "gfm", "-t", "json"))["blocks"] if not is_picture(block)]
 
 
-def is_picture(block):
+def is_picture(block: Block) -> bool:
     """Whether a block is a picture alone."""
     return block["t"] == "Para" and [one["t"] for one in block["c"]] == ["Image"]
 
 
-def plain(value):
+def content_of(value: Block) -> Any:
+    """What a block or an inline has, if it has something."""
+    return value.get("c")
+
+
+def plain(value: Block | list[Block]) -> str:
     """The text of blocks or inlines."""
     if isinstance(value, list):
         return "".join(plain(one) for one in value)
-    kind, content = value["t"], value.get("c")
+    kind, content = value["t"], content_of(value)
     if kind in ("Space", "SoftBreak", "LineBreak"):
         return " "
     if kind == "Str":
-        return content
+        return str(content)
     if kind == "Code":
-        return content[1]
+        return str(content[1])
     if kind in ("Plain", "Para", "Strong", "Emph"):
         return plain(content)
     return plain(content[1]) if kind == "Link" else ""
 
 
-def sections(blocks, level):
+def sections(blocks: Iterable[Block], level: int) -> list[tuple[str, list[Block]]]:
     """The parts of a text by its headings of this level: their titles, each with its blocks. What stands before the
     first has an empty title."""
-    found = [("", [])]
+    found: list[tuple[str, list[Block]]] = [("", [])]
     for block in blocks:
         if block["t"] == "Header" and block["c"][0] == level:
             found.append((plain(block["c"][2]), []))
@@ -57,25 +69,25 @@ def sections(blocks, level):
     return found
 
 
-def cells(row):
+def cells(row: Sequence[Any]) -> list[Cell]:
     return [[inline for block in cell[4] for inline in block["c"]] for cell in row[1]]
 
 
-def table(block):
+def table(block: Block) -> tuple[list[Cell], list[list[Cell]]]:
     """The heading of a table and its rows, each cell a list of inlines."""
     _, _, _, head, bodies, _ = block["c"]
     return cells(head[1][0]), [cells(row) for body in bodies for row in body[3]]
 
 
-def words(text):
+def words(text: str) -> list[Inline]:
     """Inlines of these words."""
-    found = []
+    found: list[Inline] = []
     for word in text.split():
         found += [{"t": "Str", "c": word}, {"t": "Space"}]
     return found[:-1]
 
 
-def as_lines(heading, rows):
+def as_lines(heading: Sequence[Cell], rows: Sequence[Sequence[Cell]]) -> Block | None:
     """The table as lines, with its widest column cut into as many as it takes; `None` where it has only two columns, or
     where the others leave that one too little."""
     texts = [[plain(cell) for cell in row] for row in (heading, *rows)]
@@ -95,24 +107,24 @@ def as_lines(heading, rows):
     return {"t": "CodeBlock", "c": [["", [], []], "\n".join(line for line in lines if line)]}
 
 
-def as_terms(heading, rows):
+def as_terms(heading: Sequence[Cell], rows: Sequence[Sequence[Cell]]) -> Block:
     """The table as a list of terms."""
     items = []
     for term, *others in rows:
-        said = [[{"t": "Plain", "c": told(others[0])}]] if others else []
+        said: list[list[Block]] = [[{"t": "Plain", "c": told(others[0])}]] if others else []
         for title, cell in zip(heading[2:], others[1:]):
             if cell:
-                name = [{"t": "Emph", "c": told(title)}, {"t": "Str", "c": ":"}, {"t": "Space"}]
+                name: list[Inline] = [{"t": "Emph", "c": told(title)}, {"t": "Str", "c": ":"}, {"t": "Space"}]
                 said[-1].append({"t": "Para", "c": name + told(cell)})
         items.append([told(term) or words("(nothing)"), said])
     return {"t": "DefinitionList", "c": items}
 
 
-def told(inlines):
+def told(inlines: Iterable[Inline]) -> list[Inline]:
     """Inlines as a manual page has them: code in bold, and of a link its text."""
-    found = []
+    found: list[Inline] = []
     for inline in inlines:
-        kind, content = inline["t"], inline.get("c")
+        kind, content = inline["t"], content_of(inline)
         if kind == "Code":
             found.append({"t": "Strong", "c": words(content[1])})
         elif kind == "Link":
@@ -124,11 +136,11 @@ def told(inlines):
     return found
 
 
-def for_man(blocks, above):
+def for_man(blocks: Iterable[Block], above: int) -> list[Block]:
     """Blocks as a manual page has them, with the headings so many levels higher."""
-    found = []
+    found: list[Block] = []
     for block in blocks:
-        kind, content = block["t"], block.get("c")
+        kind, content = block["t"], content_of(block)
         if kind == "Table":
             heading, rows = table(block)
             found.append(as_lines(heading, rows) or as_terms(heading, rows))
@@ -147,9 +159,9 @@ def for_man(blocks, above):
     return found
 
 
-def marked(text):
+def marked(text: str) -> list[Inline]:
     """Inlines of a text with words in **bold** and in *italics*."""
-    found = []
+    found: list[Inline] = []
     for bold, italic, rest in re.findall(r"\*\*(.+?)\*\*|\*(.+?)\*|([^*]+)", text):
         kind, content = ("Strong", bold) if bold else ("Emph", italic) if italic else (None, rest)
         if kind:
@@ -160,29 +172,29 @@ def marked(text):
     return found
 
 
-def paragraph(inlines):
+def paragraph(inlines: list[Inline]) -> Block:
     return {"t": "Para", "c": inlines}
 
 
-def definitions(pairs):
+def definitions(pairs: Iterable[tuple[list[Inline], list[Inline]]]) -> list[Block]:
     """A list of terms, each with what is said of it: pairs of inlines."""
     items = [[term, [[{"t": "Plain", "c": said}]]] for term, said in pairs]
     return [{"t": "DefinitionList", "c": items}] if items else []
 
 
-def literal(text):
+def literal(text: str) -> list[Block]:
     """Lines that stay as they are."""
     return [{"t": "CodeBlock", "c": [["", [], []], text.rstrip("\n")]}]
 
 
-def section(title, blocks):
+def section(title: str, blocks: Sequence[Block]) -> list[Block]:
     """A section of a manual page."""
     return [{"t": "Header", "c": [1, ["", [], []], words(title)]}, *blocks] if blocks else []
 
 
-def written(pages):
+def written(pages: Iterable[Iterable[Block]]) -> list[str]:
     """What man reads of pages, each a list of blocks that are as a manual page has them."""
-    blocks = []
+    blocks: list[Block] = []
     for page in pages:
         blocks += [*page, {"t": "RawBlock", "c": ["man", PART]}]
     whole = {"pandoc-api-version": [1, 22, 1], "meta": {}, "blocks": blocks}
@@ -196,7 +208,7 @@ def written(pages):
     return [part.lstrip("\n") for part in text.split(PART)[:-1]]
 
 
-def head(name, number, day, source, about):
+def head(name: str, number: int, day: str, source: str, about: str) -> str:
     """The beginning of a manual page: its name, its section, its day, what it belongs to, and what it is about."""
     title, line = name.upper().replace("-", r"\-"), f"{roff(name)} \\- {roff(about)}"
     # What stands on one line here may be long: it goes on behind an escaped end of a line.
@@ -204,6 +216,6 @@ def head(name, number, day, source, about):
     return f'.TH {title} {number} {day} "{source}" "{source.split()[0]}"\n.nh\n.ad l\n.SH NAME\n{line}\n'
 
 
-def roff(text):
+def roff(text: str) -> str:
     """A text within a line of a manual page."""
     return text.replace("\\", r"\e").replace("-", r"\-").replace("'", r"\(aq")

@@ -5,19 +5,22 @@ import pathlib
 import subprocess
 import sys
 import time
+from collections.abc import Collection, Sequence
+from typing import IO
 
 import model
 import postgres
 
 # What stands before each command that is measured.
-BEFORE = []
+BEFORE: list[str] = []
 
 
 class Run:
     """A command: its seconds, and those of the processors for it and for all that it started. Where it writes into a
     database, those of the database count too."""
 
-    def __init__(self, words, output=subprocess.DEVNULL, cluster=None, sound=(0,)):
+    def __init__(self, words: Sequence[object], output: int | IO[bytes] = subprocess.DEVNULL,
+                 cluster: postgres.Cluster | None = None, sound: Collection[int] = (0,)) -> None:
         before, start = spent(cluster), time.monotonic()
         with subprocess.Popen([str(word) for word in (*BEFORE, *words)], stdout=output,
                               stderr=subprocess.DEVNULL) as process:
@@ -29,11 +32,11 @@ class Run:
             sys.exit(f"measuring: {' '.join(map(str, words))} ended with status {process.returncode}")
         self.work = used.ru_utime + used.ru_stime + spent(cluster) - before
 
-    def __str__(self):
+    def __str__(self) -> str:
         return f"{self.seconds:.1f} | {self.work:.1f}"
 
 
-def spent(cluster):
+def spent(cluster: postgres.Cluster | None) -> float:
     """The processors' seconds for a PostgreSQL so far, and for its connections that have ended."""
     if cluster is None:
         return 0
@@ -43,18 +46,20 @@ def spent(cluster):
     return sum(map(int, fields[11:15])) / os.sysconf("SC_CLK_TCK")
 
 
-def beginning(journal, count, path):
+def beginning(journal: pathlib.Path, count: int, path: pathlib.Path) -> pathlib.Path:
     """The journal of the first touches of another."""
     with open(journal, "rb") as file:
         path.write_bytes(file.read(model.HEADER + model.SLOT * count) + b"\0")
     return path
 
 
-def sizes(base, table):
+def sizes(base: str, table: str) -> tuple[float, float]:
     """The bytes of a row of a table in PostgreSQL, and of its entries in the indexes, over all months."""
     asked = (f"select sum(pg_relation_size(relid)), sum(pg_indexes_size(relid)), (select count(*) from bovtrila.{table})"
              f" from pg_partition_tree('bovtrila.{table}') where isleaf")
-    said = subprocess.run([postgres.programs() / "psql", "-At", "-F", " ", "-c", asked, base], check=True, text=True,
+    folder = postgres.programs()
+    assert folder, "the base is one of PostgreSQL"
+    said = subprocess.run([folder / "psql", "-At", "-F", " ", "-c", asked, base], check=True, text=True,
                           stdout=subprocess.PIPE).stdout
     of_rows, of_indexes, count = map(int, said.split())
     return of_rows / count, of_indexes / count

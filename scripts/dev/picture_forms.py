@@ -1,14 +1,19 @@
 """The forms of pictures that a text describes: a sequence of messages, a flow of steps, and a map of places."""
 import re
+from collections.abc import Sequence
+from typing import TypeAlias
 
-from picture_svg import GREY, LINE, WIDTH, lines_of
+from picture_svg import GREY, LINE, WIDTH, Drawing, lines_of
+
+# The upper left corner of a box.
+Corner: TypeAlias = tuple[float, float]
 
 
 class Wrong(Exception):
     """A text of a picture has a fault. The words have the fault and the line."""
 
 
-def sequence(drawing, lines):
+def sequence(drawing: Drawing, lines: Sequence[str]) -> float:
     """Columns with a line of time each, and messages between them. Returns the height.
 
     `columns A | B | C` is the first line. `1 > 2: text` is a message, `2 x 1: text` one that gets lost, `2: text` a note
@@ -34,7 +39,7 @@ def sequence(drawing, lines):
     return y + 4
 
 
-def message(drawing, y, x, to, text, is_lost):
+def message(drawing: Drawing, y: float, x: float, to: float, text: str, is_lost: bool) -> float:
     left, width = min(x, to), abs(x - to)
     words = lines_of(text, width - 14)
     middle = left + width / 2
@@ -50,20 +55,22 @@ def message(drawing, y, x, to, text, is_lost):
     return y + 9
 
 
-def note(drawing, y, x, text):
+def note(drawing: Drawing, y: float, x: float, text: str) -> float:
     width = 116
     left = min(max(2, x - width / 2), WIDTH - width - 2)
     return drawing.filled(left, y + 2, width, text) + 9
 
 
-def across(drawing, y, text):
+def across(drawing: Drawing, y: float, text: str) -> float:
     return drawing.filled(12, y + 3, WIDTH - 24, text, GREY) + 9
 
 
-def flow(drawing, lines):
+def flow(drawing: Drawing, lines: Sequence[str]) -> float:
     """Steps from top to bottom, each a box; `> text` is beside the arrow to the next one. Returns the height."""
-    y, left, width = 4, 16, WIDTH - 32
-    beside, is_first = None, True
+    y: float = 4
+    left, width = 16, WIDTH - 32
+    beside: str | None = None
+    is_first = True
     for line in lines:
         if line.startswith("> "):
             beside = line[2:]
@@ -80,7 +87,7 @@ def flow(drawing, lines):
     return y + 4
 
 
-def step(drawing, left, y, width, head, rest):
+def step(drawing: Drawing, left: float, y: float, width: float, head: str, rest: str) -> float:
     """A box with a heading in bold, and words below it."""
     heads, words = lines_of(head, (width - 16) * 0.9), lines_of(rest, width - 16) if rest else []
     height = (len(heads) + len(words)) * LINE + 10
@@ -94,10 +101,11 @@ def step(drawing, left, y, width, head, rest):
 BOX, HIGH, BETWEEN, BELOW = 148, 54, 76, 44
 
 
-def places(drawing, lines):
+def places(drawing: Drawing, lines: Sequence[str]) -> float:
     """A map: `NAME COLUMN ROW: text` is a box of two columns, and `NAME > NAME: text` an arrow between neighbours. Returns
     the height."""
-    corners, last = {}, 0
+    corners: dict[str, Corner] = {}
+    last: float = 0
     for line in lines:
         match = re.fullmatch(r"(\w+) ([01]) (\d): (.+)", line)
         if match:
@@ -113,7 +121,7 @@ def places(drawing, lines):
     return last + HIGH + 4
 
 
-def between(drawing, start, end, text):
+def between(drawing: Drawing, start: Corner, end: Corner, text: str) -> None:
     """An arrow between two boxes that are one below the other or side by side."""
     if start[0] == end[0]:
         is_down = start[1] < end[1]

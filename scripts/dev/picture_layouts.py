@@ -1,23 +1,29 @@
 """Pictures of bytes, from the constants of the code: the frames of the protocol, and a journal's header and slots."""
+import pathlib
 import re
+from collections.abc import Sequence
+from typing import TypeAlias
 
 import fact_code
 import fact_frames
 from fact_code import Wrong, text_of
 from fact_words import words_of
-from picture_svg import GREY, WIDTH
+from picture_svg import GREY, WIDTH, Drawing
+
+# A field of a row of bytes: its name and its size in bytes.
+Cell: TypeAlias = tuple[str, int]
 
 LAYOUT = "crates/tap_journal/src/layout.rt"
 HIGH = 34
 
 
-def legend(drawing):
+def legend(drawing: Drawing) -> float:
     """Says what a box has. Returns the place below."""
     drawing.words(4, 15, "In a box: a field and its bytes. Below: its offset.", "start")
     return 26
 
 
-def row(drawing, y, title, cells):
+def row(drawing: Drawing, y: float, title: str, cells: Sequence[Cell]) -> float:
     """A row of bytes: its title, and a cell with the name, the size and the offset of each field. Returns the place below."""
     drawing.words(4, y + 11, title, "start", True)
     apart, offset = (WIDTH - 8) / len(cells), 0
@@ -31,9 +37,10 @@ def row(drawing, y, title, cells):
     return y + HIGH + 38
 
 
-def frames(drawing, top):
+def frames(drawing: Drawing, top: pathlib.Path) -> float:
     """The frames: for each layout of fields the kinds that have it."""
-    laid, kinds = {}, fact_frames.kinds(top)
+    laid: dict[tuple[Cell, ...], list[str]] = {}
+    kinds = fact_frames.kinds(top)
     words = words_of(top, "kind", fact_code.limits(top), [kind.name for kind in kinds])
     for kind in kinds:
         cells = (("length", 2), ("kind", 1), *((field.name, field.size) for field in kind.fields))
@@ -44,7 +51,7 @@ def frames(drawing, top):
     return y
 
 
-def constants(top):
+def constants(top: pathlib.Path) -> dict[str, int]:
     """The sizes and places of the journal's layout, by their names in the code."""
     text = text_of(top, LAYOUT)
     found = {name: int(value) for name, value in re.findall(r"const (\w+): usize = (\d+);", text)}
@@ -54,7 +61,7 @@ def constants(top):
     return found
 
 
-def journal(drawing, top):
+def journal(drawing: Drawing, top: pathlib.Path) -> float:
     """A journal's header and its slots."""
     of = constants(top)
     starts = [0, *(of[name] for name in ("NAME_AT", "VERSION_AT", "CAPACITY_AT", "CARDS_AT", "DIGEST_AT", "FREE_AT", "HEADER_SIZE"))]

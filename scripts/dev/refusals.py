@@ -18,9 +18,16 @@ measure of a loop are named by their goals: `Desk::learn.invariant_of-self`, `sp
 `write_whole.loop-at-preserved`. `Examples.NAME` is the example of that name in proofs/Examples.antt. `rt` reads only the
 first three lines.
 """
+from __future__ import annotations
+
 import dataclasses
 import pathlib
 import re
+from collections.abc import Callable, Collection, Iterable, Mapping, Sequence
+from typing import NamedTuple, NotRequired, TypeAlias, TypedDict
+
+# The texts of a change, or of what else a wrong body rests on.
+Digested: TypeAlias = Sequence[str | None]
 
 NOTE = re.compile(r"note: src/\S+?:\d+:\d+: (?:it is not proved that (?P<what>.*?)(?: \(`(?P<goal>[^`]+)`\))?|"
                   r"`search` found no proof \(`(?P<alone>[^`]+)`\))(?:;.*)?")
@@ -45,31 +52,59 @@ PASSES = ("open", "answered")
 RIGHT_ANSWERS = "right-answers"
 
 
+class Kept(TypedDict):
+    """What was said of a function, as it is recorded. `fits` is there where it is false."""
+
+    open: list[str]
+    answers: list[str]
+    fits: NotRequired[bool]
+
+
+class Row(TypedDict, total=False):
+    """What a wrong body has in crates/tried.json: its digest, and what was said of each function with it and with the right
+    body; or why that couldn't be read. `body` names it, as CRATE/NAME."""
+
+    body: str
+    digest: str
+    fault: str
+    wrong: dict[str, Kept]
+    right: dict[str, Kept]
+
+
+class Change(NamedTuple):
+    """A change of a file's text, with that of the right body, if there is one."""
+
+    file: str
+    old: str
+    new: str
+    right: str | None = None
+
+
 @dataclasses.dataclass
 class Edit:
     """A wrong body: its crate's name, the folder that it stands in, the clauses that it names, and its changes."""
     crate: str
     folder: str
     name: str
-    named: list  # pairs of a function and a label
-    changes: list  # [file, old, new, right or None]
+    named: list[tuple[str, str]]  # pairs of a function and a label
+    changes: list[Change]
     answers: str | None = None  # the name of a file in right-answers/
     answers_text: str | None = None  # what stands there, `None` where there is no such file
 
-    def digested(self):
+    def digested(self) -> list[Digested]:
         """What a row in crates/tried.json of it rests on, beside the crate."""
         return [*self.changes, *([[self.answers, self.answers_text]] if self.answers else [])]
 
     @property
-    def has_right(self):
-        return any(change[3] is not None for change in self.changes)
+    def has_right(self) -> bool:
+        return any(change.right is not None for change in self.changes)
 
-    def keeps_steps(self):
+    def keeps_steps(self) -> bool:
         """Whether the new texts have the steps of the old ones, in their order: a value is changed alone."""
         return all(STEP.findall(old) == STEP.findall(new) for _, old, new, _ in self.changes)
 
 
-def read_edit(file):
+def read_edit(file: pathlib.Path) -> Edit:
     """The wrong body that stands in this file."""
     edit = Edit(file.parent.parent.name, file.parent.name, file.stem, [], [])
     path, old = "", ""
@@ -86,19 +121,19 @@ def read_edit(file):
         elif word == "old":
             old = rest
         elif line.startswith("new:"):
-            edit.changes.append([path, old, line[4:].removeprefix(" "), None])
+            edit.changes.append(Change(path, old, line[4:].removeprefix(" ")))
         elif word == "right" and edit.changes:
-            edit.changes[-1][3] = rest
+            edit.changes[-1] = edit.changes[-1]._replace(right=rest)
     return edit
 
 
-def edits_of(top, name):
+def edits_of(top: pathlib.Path, name: str) -> list[Edit]:
     """The wrong bodies of a crate, those that the gate tries first."""
     folder = top / "crates" / name
     return [read_edit(file) for part in ("must-fail", "wrong-bodies") for file in sorted((folder / part).glob("*.edit"))]
 
 
-def label_of(goal):
+def label_of(goal: str) -> str:
     """The label of the clause that a goal belongs to, whatever the way to it. A loop's goal is that without the way, and
     the condition of a call is itself. The answer to all of a goal has `-whole` behind the goal's name."""
     goal = goal.removesuffix("-whole")
@@ -109,28 +144,28 @@ def label_of(goal):
     return found[1] if found else "ensures"
 
 
-def is_goal(name):
+def is_goal(name: str) -> bool:
     """Whether it is a goal of the checker, and no lemma beside the answers."""
     return name.startswith("returns") or is_condition(name) or LOOP.fullmatch(name) is not None
 
 
-def is_free(written, wanted):
+def is_free(written: set[str] | None, wanted: Iterable[str]) -> bool:
     """Whether none of the wanted labels has a written answer."""
     return written is not None and not covered(written, wanted)
 
 
-def covered(labels, named):
+def covered(labels: Iterable[str], named: Iterable[str]) -> set[str]:
     """Those of the labels that these names are of. The name of a condition without the way to it is of each way."""
     return {label for label in labels for name in named
             if label == name or is_condition(name) and label.startswith(f"{name}-")}
 
 
-def missing(named, labels):
+def missing(named: Iterable[str], labels: Collection[str]) -> set[str]:
     """Those of the names that none of the labels has."""
     return {name for name in named if not covered(labels, {name})}
 
 
-def is_condition(label):
+def is_condition(label: str) -> bool:
     """Whether it is a goal without which the body is none, as the condition of a call. Clauses and loops are others."""
     return CONDITION.match(label) is not None
 
@@ -139,33 +174,36 @@ def is_condition(label):
 class Said:
     """What was said of a function: the goals that the search left open, those whose written answer was refused by its
     type, whether all answers fit the steps that are there, and whether it rests on another function without a proof."""
-    open: set = dataclasses.field(default_factory=set)
-    answers: set = dataclasses.field(default_factory=set)
+    open: set[str] = dataclasses.field(default_factory=set)
+    answers: set[str] = dataclasses.field(default_factory=set)
     fits: bool = True
     rests: bool = False
 
-    def goals(self):
+    def goals(self) -> set[str]:
         return self.open | self.answers
 
-    def is_clear(self):
+    def is_clear(self) -> bool:
         return not self.goals() and self.fits
 
-    def kept(self):
+    def kept(self) -> Kept:
         """As it is recorded."""
-        return {"open": sorted(self.open), "answers": sorted(self.answers)} | ({} if self.fits else {"fits": False})
+        kept: Kept = {"open": sorted(self.open), "answers": sorted(self.answers)}
+        if not self.fits:
+            kept["fits"] = False
+        return kept
 
 
-def said_of(kept):
+def said_of(kept: Kept) -> Said:
     return Said(set(kept["open"]), set(kept["answers"]), kept.get("fits", True))
 
 
-def function_of(file):
+def function_of(file: str) -> str:
     """The function, or the file of lemmas, that a file of proofs/ belongs to."""
     parts = pathlib.PurePath(file).with_suffix("").parts[1:]
     return "::".join(parts[:-1]) if parts[-1] in ("Answers", "Invariants", "Proof") else parts[-1]
 
 
-def refused(name, text):
+def refused(name: str, text: str) -> list[tuple[str, str]]:
     """The declarations that an error is of, each with what is said of it."""
     found = DEPENDING.fullmatch(text)
     if not found:
@@ -174,12 +212,16 @@ def refused(name, text):
     return [(one, f"it cites `{found['lemma']}`, which was rejected") for one in names]
 
 
-def read_told(out):
+def read_told(out: str) -> tuple[dict[str, Said], list[str]]:
     """What a check said of each function, and of each file of lemmas, and the errors that keep it from being read.
 
     A function that the checker has a verdict on is there, also where nothing is open.
     """
-    told, unread, notes, errors = {}, [], set(), []
+    told: dict[str, Said] = {}
+    unread: list[str] = []
+    notes: set[str] = set()
+    # The function or the file of lemmas, the declaration, and what was said of it.
+    errors: list[tuple[str, str, str]] = []
     for line in out.split("\n"):
         if found := NOTE.fullmatch(line):
             notes.add(found["alone"] or found["goal"] or found["what"])
@@ -204,15 +246,15 @@ def read_told(out):
         elif name and not FOLLOWS.search(text):
             said.answers.add(name)
     behind = [(told[path], name, text) for path, name, text in errors if name and FOLLOWS.search(text)]
-    while found := [(said, name) for said, name, text in behind
-                    if name not in said.answers and any(f"`{one}`" in text for one in said.answers)]:
+    while follow := [(said, name) for said, name, text in behind
+                     if name not in said.answers and any(f"`{one}`" in text for one in said.answers)]:
         # What rests on a lemma of the answers that was refused by its type is refused by way of it.
-        for said, name in found:
+        for said, name in follow:
             said.answers.add(name)
     return told, unread
 
 
-def is_named(path, function):
+def is_named(path: str, function: str) -> bool:
     """Whether FUNCTION, as docs/proofs/ has it, is the function that the checker tells by this path. A trait's method
     stands there under the type's name with the trait's behind it."""
     own, wanted = path.split("::"), function.split("::")
@@ -223,13 +265,13 @@ def is_named(path, function):
     return len(own) > 1 and len(wanted) == 2 and own[-2].startswith(wanted[0])
 
 
-def matching(told, function):
+def matching(told: Mapping[str, Said], function: str) -> list[str]:
     """The paths of the functions of this name: of one whose path has it as it stands, where there is one."""
     paths = [path for path in told if is_named(path, function)]
     return [path for path in paths if f"::{path}".endswith(f"::{function}")] or paths
 
 
-def written_for(crate, path):
+def written_for(crate: pathlib.Path, path: str) -> set[str] | None:
     """The labels of a function's goals that have written answers: what the search doesn't find for the body as it stands.
     `None`: all of its proof is written."""
     folder = crate / "proofs" / path.replace("::", "/")
@@ -239,7 +281,8 @@ def written_for(crate, path):
     return {label_of(goal) for goal in ANSWER.findall(file.read_text())} if file.is_file() else set()
 
 
-def verdict(edit, wrong, right, written):
+def verdict(edit: Edit, wrong: Mapping[str, Said], right: Mapping[str, Said] | None,
+            written: Callable[[str], set[str] | None]) -> tuple[str, str]:
     """How a wrong body went: a word, and what is said of it. `open` and `answered` pass.
 
     WRONG has what was said with it, RIGHT with the right body, `None` where that wasn't tried. WRITTEN gives the labels of
@@ -267,7 +310,8 @@ def verdict(edit, wrong, right, written):
     conditions = {label for said in wrong.values() for label in map(label_of, said.open) if is_condition(label)}
     if conditions := conditions - covered(conditions, named):
         return "condition", f"open besides: {', '.join(sorted(conditions))}"
-    word, besides = "open", set()
+    word = "open"
+    besides: set[str] = set()
     for function in dict.fromkeys(function for function, _ in edit.named):
         wanted = {label for one, label in edit.named if one == function}
         said = {path: wrong[path] for path in matching(wrong, function)}

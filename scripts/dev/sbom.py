@@ -32,7 +32,7 @@ class Release:
     kit: str
 
 
-def crates_of_kit(top=TOP):
+def crates_of_kit(top: pathlib.Path = TOP) -> list[str]:
     """The kit's crates that the programs contain, by crates.txt: its lines name own crates and the kit's."""
     named = {name: line.partition(":")[2].split() for name, line in sources.workspace(top).items()}
     found, new = set(), set(PROGRAMS)
@@ -42,32 +42,33 @@ def crates_of_kit(top=TOP):
     return sorted(found - set(named))
 
 
-def field(package, name):
+def field(package: pathlib.Path, name: str) -> str:
     """A field of a Debian package, empty where it has none."""
     return repository.said_by("dpkg-deb", "--field", package, name)
 
 
-def dependencies(package):
+def dependencies(package: pathlib.Path) -> dict[str, str]:
     """The Debian packages that a package depends on, each with what the package says of it, as `python3 (>= 3.11)`."""
     said = ", ".join(filter(None, (field(package, name) for name in ("Pre-Depends", "Depends"))))
-    return {re.match(r"[a-z0-9.+-]+", one)[0]: one for one in re.split(r"\s*[,|]\s*", said) if one}
+    return {re.split(r"[^a-z0-9.+-]", one)[0]: one for one in re.split(r"\s*[,|]\s*", said) if one}
 
 
-def identifier(kind, name):
+def identifier(kind: str, name: str) -> str:
     """A name within the document: letters, digits, dots and dashes."""
     return f"SPDXRef-{kind}-" + re.sub(r"[^A-Za-z0-9.-]", "-", name)
 
 
-def described(kind, name, version, **more):
+def described(kind: str, name: str, version: str, **more: object) -> dict[str, Any]:
     """A package as SPDX has it, without a version where that is empty."""
     return {"SPDXID": identifier(kind, name), "name": name, **({"versionInfo": version} if version else {}),
             "downloadLocation": UNKNOWN, "filesAnalyzed": False, "licenseConcluded": UNKNOWN,
             "licenseDeclared": UNKNOWN, "copyrightText": UNKNOWN, **more}
 
 
-def of_file(purpose, file, name, version):
+def of_file(purpose: str, file: pathlib.Path, name: str, version: str) -> dict[str, Any]:
     """A file of the release as SPDX has it: with its digest, its licence and who made it."""
     owner = re.search(r"^Copyright \d+ (.*)$", (TOP / "NOTICE").read_text(), re.M)
+    assert owner, "NOTICE says whose it is"
     digest = hashlib.sha256(file.read_bytes()).hexdigest()
     return described(purpose.title(), name, version, packageFileName=file.name, supplier=f"Organization: {owner[1]}",
                      primaryPackagePurpose=purpose, licenseDeclared=LICENCE, copyrightText=owner[0],

@@ -1,7 +1,9 @@
 """The completion of the command line of a program or an installed script, for bash and zsh, made from its own help."""
 import re
+from collections.abc import Iterable
 
 import script_help
+from script_help import Help, Item
 
 BASH = """\
 # Completion of @NAME@'s command line for bash, made from its help.
@@ -37,20 +39,20 @@ complete -F _@FUNCTION@ @NAME@
 """
 
 
-def parts(said):
+def parts(said: Help) -> dict[str, Help]:
     """The help of each act by its name, or that of a command without acts by no name."""
     return said.acts or {"": said}
 
 
-def spaced(options):
+def spaced(options: Iterable[Item]) -> str:
     """The names of options as bash has them, a blank around each."""
     return f" {'  '.join(name for item in options for name in script_help.names(item))} "
 
 
-def bash_values(said, function):
+def bash_values(said: Help, function: str) -> list[str]:
     """The branches for what follows an option with values: a file, one of some words, or something of which nothing is known.
     Each begins with the value's place."""
-    by_act = {}
+    by_act: dict[str, dict[str, None]] = {}
     for item in (item for one in (said, *said.acts.values()) for item in one.options):
         for place, value in enumerate(script_help.values(item), 1):
             act = f'_{function}_files "$current"; return' if script_help.is_file(value) else "return"
@@ -60,7 +62,7 @@ def bash_values(said, function):
     return [f"            {' | '.join(places)}) {act} ;;" for act, places in by_act.items()] or ["            *) ;;"]
 
 
-def bash_acts(said):
+def bash_acts(said: Help) -> list[str]:
     """What sets the options and whether files are offered, by the act where there are several."""
     if not said.acts:
         return [f'    options="{spaced(said.options)}" files={"yes" if script_help.has_files(said) else ""}']
@@ -73,7 +75,7 @@ def bash_acts(said):
     return [*lines, *[f'        help) options=" {"  ".join(said.acts)} " ;;'] * said.has_help, "    esac"]
 
 
-def bash(name, said):
+def bash(name: str, said: Help) -> str:
     """The completion for bash."""
     apart = [f'            {act or "*"}" {one}") {"; ".join(f"options=${{options/ {other} / }}" for other in others)} ;;'
              for act, own in parts(said).items() for one, others in script_help.conflicts(own.options).items()]
@@ -84,19 +86,19 @@ def bash(name, said):
     return text
 
 
-def quoted(text):
+def quoted(text: str) -> str:
     """A text within a specification of zsh's _arguments, in single quotes."""
     for mark in "\\[]:":
         text = text.replace(mark, f"\\{mark}")
     return text.replace("'", "'\\''")
 
 
-def action(item, value):
+def action(item: Item, value: str) -> str:
     """What zsh offers for a value: files, some words, or nothing."""
     return f"({' '.join(script_help.choices(item))})" if script_help.choices(item) else "_files" if script_help.is_file(value) else " "
 
 
-def specifications(said):
+def specifications(said: Help) -> list[str]:
     """How zsh's _arguments is told of a command's options and words."""
     found, conflicts = [], script_help.conflicts(said.options)
     for item in said.options:
@@ -113,13 +115,13 @@ def specifications(said):
     return found
 
 
-def arguments(said, indent):
+def arguments(said: Help, indent: str) -> str:
     """A call of _arguments."""
     lines = specifications(said)
     return f"{indent}_arguments \\\n" + " \\\n".join(f"{indent}    {line}" for line in lines)
 
 
-def zsh(name, said):
+def zsh(name: str, said: Help) -> str:
     """The completion for zsh."""
     head = f"#compdef {name}\n# Completion of {name}'s command line for zsh, made from its help.\n\n"
     if not said.acts:

@@ -5,6 +5,8 @@ toolchain's logic, the wrong body's change, the crate's `src/`, `specs/` and `pr
 repository below it the parts that another crate sees: `specs/`, and `src/` without bodies, comments and private functions.
 Tests don't count.
 """
+from __future__ import annotations
+
 import collections
 import dataclasses
 import functools
@@ -13,6 +15,8 @@ import json
 import pathlib
 import re
 import subprocess
+from collections.abc import Callable, Iterable, Iterator
+from typing import TypeAlias
 
 import refusals
 
@@ -42,8 +46,14 @@ TRIED = ("scripts/dev/wrong-bodies writes this file: for each wrong body that wa
          "body beside it, likewise")
 
 
+# A function's head, and where it ends in its text.
+Function: TypeAlias = tuple[re.Match[str], int]
+# The rows of crates/tried.json: by crate and wrong body.
+Rows: TypeAlias = dict[str, dict[str, refusals.Row]]
+
+
 @functools.cache
-def heads(text, indent):
+def heads(text: str, indent: int) -> list[Function]:
     """The functions at this indentation: the match, and where its signature with its clauses ends."""
     # Clauses come before a body's brace on a line of its own; without any, the brace ends the signature.
     end = re.compile(rf"^ {{{indent}}}\{{\}}?$|^ {{{indent}}}[>)].* \{{$|\}};$|^.*\)(?: -> .*)?;$", re.M)
@@ -59,14 +69,14 @@ def heads(text, indent):
     return found
 
 
-def functions(text, indent):
+def functions(text: str, indent: int) -> Iterator[tuple[str, bool, list[str]]]:
     """The functions at this indentation, with whether they are public and the labels of their clauses."""
     for match, close in heads(text, indent):
         head = text[match.start():close]
         yield match["name"], bool(match["pub"]), [clause["label"] or "ensures" for clause in CLAUSE.finditer(head)]
 
 
-def bodies(text):
+def bodies(text: str) -> Iterator[tuple[str, int]]:
     """The functions of a text that have a body, with how many lines stand between its braces."""
     for indent in (0, 4):
         ends = re.compile(rf"^ {{{indent}}}\}}", re.M)
@@ -83,32 +93,33 @@ class Owner:
     name: str
     trait: str  # empty for a trait and for an impl of none
     is_trait: bool
-    members: set
+    members: set[str]
     body: str
 
 
-def owners(text):
+def owners(text: str) -> Iterator[Owner]:
     """The impls and traits of a text."""
     for block in BLOCK.finditer(text):
         head = GENERICS.sub("", block["head"].strip())
         is_trait = block["kind"] == "trait"
         trait, _, subject = ("", "", head) if is_trait or not re.search(r"\bfor\b", head) else head.rpartition(" for ")
-        yield Owner(re.search(r"\w+", subject)[0], trait and re.match(r"(?:\w+::)*(\w+)", trait.strip())[1], is_trait,
-                    set(MEMBER.findall(block["body"])), block["body"])
+        name, of = re.search(r"\w+", subject), re.match(r"(?:\w+::)*(\w+)", trait.strip())
+        assert name and (of or not trait), "an impl names its type, and a trait its name"
+        yield Owner(name[0], of[1] if of else "", is_trait, set(MEMBER.findall(block["body"])), block["body"])
 
 
 @dataclasses.dataclass
 class Signature:
     """What is stated of a function: the labels of its clauses, the members of its impl, and of which trait that is one."""
-    labels: list
-    members: set
+    labels: list[str]
+    members: set[str]
     trait: str
 
 
 @functools.cache
-def signatures(top, name):
+def signatures(top: pathlib.Path, name: str) -> dict[str, list[Signature]]:
     """What is stated of each function of a crate, by `function` and by `Owner::function`. One name may stand for several."""
-    found = collections.defaultdict(list)
+    found: dict[str, list[Signature]] = collections.defaultdict(list)
     for file in sorted((top / "crates" / name / "src").rglob("*.rt")):
         text = file.read_text()
         for function, _, labels in functions(BLOCK.sub("", text), 0):
@@ -123,9 +134,9 @@ def signatures(top, name):
 
 
 @functools.cache
-def trait_labels(top):
+def trait_labels(top: pathlib.Path) -> dict[str, list[str]]:
     """The labels of the clauses of each trait's functions, by `Trait::function`, in all crates."""
-    found = {}
+    found: dict[str, list[str]] = {}
     for name in workspace(top):
         for file in sorted((top / "crates" / name / "src").rglob("*.rt")):
             for owner in owners(file.read_text()):
@@ -134,12 +145,12 @@ def trait_labels(top):
     return found
 
 
-def label_in_goals(top, crate, function, label):
+def label_in_goals(top: pathlib.Path, crate: str, function: str, label: str) -> str | None:
     """The label that the goals of a clause have which a wrong body names, `None` where nothing states it. A clause that is
     its function's only one has none in its goals."""
     own = "::".join(function.split("::")[-2:])
     said = signatures(top, crate)
-    for one in said.get(own) or said.get(own.split("::")[-1], []):
+    for one in said.get(own, []) or said.get(own.split("::")[-1], []):
         stated = [one.labels, trait_labels(top).get(f"{one.trait}::{own.split('::')[-1]}", [])]
         for labels in stated:
             if label in labels:
@@ -155,13 +166,13 @@ def label_in_goals(top, crate, function, label):
     return None
 
 
-def module_at(path):
+def module_at(path: str) -> str:
     """The module of a file of src/, as `rt check --only` takes it. Empty for the crate's root, and outside of src/."""
     parts = pathlib.PurePath(path).with_suffix("").parts
     return "::".join(part for part in parts[1:] if part not in ("lib", "main", "mod")) if parts[0] == "src" else ""
 
 
-def function_at(path, text, at):
+def function_at(path: str, text: str, at: int) -> str | None:
     """The function of a file of src/ that has this place: a free one by its path below the crate, that of a type as
     `Type::name`, and that in an impl of a trait as `module::*::name`, since the checker gives the type a name of its
     own there. `None`: it stands in no function."""
@@ -180,17 +191,19 @@ def function_at(path, text, at):
         if owner["kind"] == "trait" or re.search(r"\bfor\b", owner["head"]):
             return "::".join([*module, f"*::{found['name']}"])
         subject = GENERICS.sub("", owner["head"].strip())
-        return f"{re.search(r'[A-Za-z_]+', subject)[0]}::{found['name']}"
+        name = re.search(r"[A-Za-z_]+", subject)
+        assert name, "an impl names its type"
+        return f"{name[0]}::{found['name']}"
     return "::".join([*module, found["name"]])
 
 
-def is_place(path, place):
+def is_place(path: str, place: str) -> bool:
     """Whether the checker's path of a function is this one of `function_at`."""
     own, wanted = path.split("::")[-len(place.split("::")):], place.split("::")
     return len(own) == len(wanted) and all(one == other or other == "*" for one, other in zip(own, wanted))
 
 
-def without_bodies(text):
+def without_bodies(text: str) -> str:
     """The text of a file of src/ without the bodies of its functions: what a caller sees of it."""
     for indent in (4, 0):
         parts, at = [], 0
@@ -202,19 +215,19 @@ def without_bodies(text):
     return text
 
 
-def workspace(top):
+def workspace(top: pathlib.Path) -> dict[str, str]:
     """The line of crates.txt for each crate."""
     lines = [line.partition("#")[0].strip() for line in (top / "crates.txt").read_text().split("\n")]
     return {line.split(":")[0].split()[0]: line for line in lines if line}
 
 
-def libraries(top, name):
+def libraries(top: pathlib.Path, name: str) -> list[str]:
     """The libraries of the repository that crates.txt names for the crate."""
     named = workspace(top)[name].partition(":")[2].split()
     return [other for other in sorted(named) if (top / "crates" / other).is_dir()]
 
 
-def below(top, name):
+def below(top: pathlib.Path, name: str) -> list[str]:
     """The libraries of the repository that the crate stands on, also by way of another one."""
     found = libraries(top, name)
     for other in found:
@@ -222,7 +235,7 @@ def below(top, name):
     return found
 
 
-def texts(folder, parts, change=str):
+def texts(folder: pathlib.Path, parts: Iterable[str], change: Callable[[str], str] = str) -> Iterator[str]:
     """The texts of these parts of a crate, but for tests and for those of which nothing is left, each behind its path."""
     for part in parts:
         for file in sorted((folder / part).rglob("*")):
@@ -231,7 +244,7 @@ def texts(folder, parts, change=str):
                     yield f"{file.relative_to(folder.parent)}\n{text}\n"
 
 
-def without_own_functions(text):
+def without_own_functions(text: str) -> str:
     """The text of a file of src/ without the functions that no other crate can call. Those of traits can be called."""
     for indent in (4, 0):
         owned = [(one.end(), one["kind"] == "impl" and not re.search(r"\bfor\b", one["head"])) for one in OWNER.finditer(text)]
@@ -247,12 +260,12 @@ def without_own_functions(text):
     return text
 
 
-def without_comments(text):
+def without_comments(text: str) -> str:
     return COMMENT.sub("", text)
 
 
 @functools.cache
-def caller_sees(text):
+def caller_sees(text: str) -> str:
     """What another crate sees of a file of src/: no body, no comment, no function of the crate's own, not how a function
     is compiled, and fields in no order. Nothing of a file that is the crate's own."""
     text = UNSEEN.sub("", without_comments(without_bodies(without_own_functions(text))))
@@ -261,67 +274,68 @@ def caller_sees(text):
 
 
 @functools.cache
-def logic():
+def logic() -> str:
     """The logic of the toolchain, from the line by which it names itself. Kits of one logic aren't told apart."""
     return subprocess.run(["rt", "version"], capture_output=True, check=True, text=True).stdout.partition(" ")[2]
 
 
-def base_of(top, name):
+def base_of(top: pathlib.Path, name: str) -> hashlib._Hash:
     """What each text that is tried in a crate rests on, as the beginning of its digest."""
     rests = hashlib.sha256(logic().encode())
     crate = top / "crates" / name
     for text in texts(crate, ("src", "specs", "proofs")):
         rests.update(text.encode())
     for library in libraries(top, name):
-        for part, change in (("src", caller_sees), ("specs", without_comments)):
+        seen: dict[str, Callable[[str], str]] = {"src": caller_sees, "specs": without_comments}
+        for part, change in seen.items():
             for text in texts(top / "crates" / library, (part,), change):
                 rests.update(text.encode())
     return rests
 
 
-def digest_of(base, changes):
+def digest_of(base: hashlib._Hash, changes: Iterable[Iterable[str | None]]) -> str:
     """The digest of these changes, over what they rest on."""
     one = base.copy()
     one.update(repr([tuple(change) for change in changes]).encode())
     return one.hexdigest()[:16]
 
 
-def digests(top, name):
+def digests(top: pathlib.Path, name: str) -> dict[str, str]:
     """The digest of each wrong body of the crate with its right one, whatever clause it names."""
     base = base_of(top, name)
     return {edit.name: digest_of(base, edit.digested()) for edit in refusals.edits_of(top, name)}
 
 
-def tried(top):
+def tried(top: pathlib.Path) -> Rows:
     """The rows of crates/tried.json: by crate, for each wrong body its digest and what was said of it."""
     file = top / "crates" / "tried.json"
     rows = json.loads(file.read_text())["tried"] if file.is_file() else []
-    found = {}
+    found: Rows = {}
     for row in rows:
         name, edit = row.pop("body").split("/")
         found.setdefault(name, {})[edit] = row
     return found
 
 
-def write_tried(top, rows):
+def write_tried(top: pathlib.Path, rows: Rows) -> None:
     """Writes crates/tried.json from these rows, a line each, sorted by name."""
     lines = [json.dumps({"body": f"{name}/{edit}", **rows[name][edit]}) for name in sorted(rows) for edit in sorted(rows[name])]
     text = ",\n".join(lines)
     (top / "crates" / "tried.json").write_text(f'{{"what": {json.dumps(TRIED)}, "tried": [\n{text}\n]}}\n')
 
 
-def judged(top, edit, row):
+def judged(top: pathlib.Path, edit: refusals.Edit, row: refusals.Row) -> tuple[str, str]:
     """How a wrong body went by what was said of it: a word, and what is told of it."""
     if "fault" in row:
         return "unread", row["fault"]
-    wrong, right = ({path: refusals.said_of(said) for path, said in row[key].items()} if key in row else None
-                    for key in ("wrong", "right"))
+    wrong = {path: refusals.said_of(said) for path, said in row["wrong"].items()}
+    right = {path: refusals.said_of(said) for path, said in row["right"].items()} if "right" in row else None
     named = [(function, label_in_goals(top, edit.crate, function, label) or label) for function, label in edit.named]
     return refusals.verdict(dataclasses.replace(edit, named=named), wrong, right,
                             lambda path: refusals.written_for(top / "crates" / edit.crate, path))
 
 
-def stale(top, name):
+def stale(top: pathlib.Path, name: str) -> list[str]:
     """The wrong bodies of the crate that have no row, or one of another digest."""
     rows = tried(top).get(name, {})
-    return [edit for edit, digest in digests(top, name).items() if rows.get(edit, {}).get("digest") != digest]
+    return [edit for edit, digest in digests(top, name).items() if edit not in rows or rows[edit].get("digest") != digest]

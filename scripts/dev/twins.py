@@ -4,11 +4,20 @@ One check tries many of them, also several of one function: each has a copy of t
 that aren't tried have their contracts and no proofs, so that a check spends no time on them. A method in an impl of a
 trait has no twin, and neither has a function whose proof is written as a whole: these are changed in their place.
 """
+from __future__ import annotations
+
 import dataclasses
 import functools
+import pathlib
 import re
+from collections.abc import Collection, Mapping, Sequence
+from typing import TypeAlias
 
 import sources
+
+# The texts of a crate by their paths, and a change of one: the path, the old text and the new one.
+Texts: TypeAlias = Mapping[str, str]
+Change: TypeAlias = tuple[str, str, str]
 
 ANSWERS = ("Answers.antt", "Invariants.antt")
 WHOLE = "Proof.antt"
@@ -18,7 +27,7 @@ GOALS = re.compile(r"\bRattle\.\w+\.proofs\.([\w.]+)\.(?:Goals|Given)\b")
 READER = "examples_are_read"
 
 
-def texts_of(crate):
+def texts_of(crate: pathlib.Path) -> dict[str, str]:
     """The texts of a crate that a check reads, by their paths in it."""
     return {str(file.relative_to(crate)): file.read_text() for part in ("src", "specs", "proofs")
             for file in sorted((crate / part).rglob("*")) if file.is_file()}
@@ -27,9 +36,9 @@ def texts_of(crate):
 class Functions:
     """The functions of a crate that may have twins: the file of each, by its path as the checker tells it."""
 
-    def __init__(self, texts):
+    def __init__(self, texts: Texts) -> None:
         self.texts = texts
-        self.found = {}
+        self.found: dict[str, str] = {}
         # Those whose goals another file names: they stay as they are.
         self.named_elsewhere = {found[1].replace(".", "::") for path, text in texts.items() for found in GOALS.finditer(text)
                                 if path.startswith("proofs/") and not path.startswith(f"proofs/{found[1].replace('.', '/')}/")}
@@ -46,18 +55,18 @@ class Functions:
                         parts = [*filter(None, [sources.module_at(home)]), owner.name, match["name"]]
                         self.found["::".join(parts)] = path
 
-    def path_of(self, place):
+    def path_of(self, place: str) -> str | None:
         """The path of the function at a place as `sources.function_at` gives it, `None` where that isn't plain."""
         paths = [path for path in self.found if sources.is_place(path, place)]
         return paths[0] if len(paths) == 1 and "*" not in place else None
 
-    def named(self, function):
+    def named(self, function: str) -> list[str]:
         """The paths of the functions that a wrong body may name by this."""
         return [path for path in self.found if f"::{path}".endswith(f"::{function}")]
 
 
 @functools.cache
-def span(file, text, place):
+def span(file: str, text: str, place: str) -> tuple[int, int] | None:
     """Where the function at this place begins, with the attributes above it, and where it ends."""
     name = place.split("::")[-1]
     for indent in (0, 4):
@@ -70,18 +79,18 @@ def span(file, text, place):
     return None
 
 
-def path_in_impl(place, file, text, at):
+def path_in_impl(place: str, file: str, text: str, at: int) -> str:
     """The path by which the checker tells the method at this place of a trait's impl: the type, the trait and what that is
     of stand in it as one name. `place` itself where it is that of another function."""
     if "*" not in place:
         return place
     head = [one for one in sources.OWNER.finditer(text) if one.end() <= at][-1]["head"]
     trait, _, subject = sources.GENERICS.sub("", head.strip()).strip().rpartition(" for ")
-    named = re.match(r"(?:\w+::)*(\w+)(?:<(?:\w+::)*(\w+))?", trait)
-    return place.replace("*", "".join([re.match(r"(?:\w+::)*(\w+)", subject)[1], named[1], named[2] or ""])) if named else place
+    named, of = re.match(r"(?:\w+::)*(\w+)(?:<(?:\w+::)*(\w+))?", trait), re.match(r"(?:\w+::)*(\w+)", subject)
+    return place.replace("*", "".join([of[1], named[1], named[2] or ""])) if named and of else place
 
 
-def folder_of(path):
+def folder_of(path: str) -> str:
     return "proofs/" + path.replace("::", "/")
 
 
@@ -95,11 +104,11 @@ class Twin:
     name: str
 
     @property
-    def own_path(self):
+    def own_path(self) -> str:
         return "::".join([*self.path.split("::")[:-1], self.name])
 
 
-def twin_of(functions, place, changes, number):
+def twin_of(functions: Functions, place: str, changes: Sequence[Change], number: int) -> Twin | None:
     """The twin of the function at this place with these changes. `None` where it can have none."""
     path = functions.path_of(place)
     if path is None or path in functions.named_elsewhere or f"{folder_of(path)}/{WHOLE}" in functions.texts:
@@ -118,7 +127,8 @@ def twin_of(functions, place, changes, number):
     return Twin(place, path, file, re.sub(rf"\bfn {own}\b", f"fn {name}", text, count=1), name)
 
 
-def laid(functions, crate, changes, twins, proved, reads_examples=False):
+def laid(functions: Functions, crate: str, changes: Sequence[Change], twins: Sequence[Twin], proved: Collection[str],
+         reads_examples: bool = False) -> dict[str, str] | None:
     """The crate's texts with these changes in their places and these twins, and without the proofs of all functions but
     these; with a function that reads the examples where that is asked. `None`: a text to change doesn't stand there once."""
     texts = dict(functions.texts)
@@ -137,7 +147,9 @@ def laid(functions, crate, changes, twins, proved, reads_examples=False):
             if text is not None:
                 own, other = (f"Rattle.{crate}.proofs.{one.replace('::', '.')}." for one in (twin.path, twin.own_path))
                 texts[f"{folder_of(twin.own_path)}/{file}"] = text.replace(own, other)
-        _, end = span(twin.file, texts[twin.file], twin.place)
+        ends = span(twin.file, texts[twin.file], twin.place)
+        assert ends, "its own function is there: twin_of has found it"
+        end = ends[1]
         texts[twin.file] = f"{texts[twin.file][:end]}\n\n{twin.text}{texts[twin.file][end:]}"
     if reads_examples:
         root = "src/lib.rt" if "src/lib.rt" in texts else "src/main.rt"

@@ -13,13 +13,24 @@ import struct
 import subprocess
 import tempfile
 import time
+import types
 import unittest
+from collections.abc import Callable, Iterable, Iterator, Sequence
+from typing import Any, TypeAlias
 
 import harness
 import model
 import wire
 from harness import EXAMPLE, PROGRAM, TIME, TOP
 from listening import Door
+
+# An argument of a command; what a gate says on a line, where long words are digests; and an opening's cause, its place and
+# the touches' frames.
+Word: TypeAlias = str | int | pathlib.Path
+Line: TypeAlias = list[Any]
+Opening: TypeAlias = tuple[int, int, list[bytes]]
+# Times of a gate in milliseconds: of a call, of an answer, of the first and of the longest wait before a repeat.
+Times: TypeAlias = tuple[int, int, int, int]
 
 CLIENT = TOP / "clients" / "c"
 TESTS = CLIENT / "tests"
@@ -28,19 +39,20 @@ SOURCE = CLIENT / "bovtrila_gate.c"
 WARNINGS = ["-std=c99", "-Wall", "-Wextra", "-Wpedantic", "-Werror"]
 # A folder in memory, where there is one: each touch syncs the gate's file twice.
 FAST = "/dev/shm" if os.access("/dev/shm", os.W_OK) else None
-# Times of a gate in milliseconds: of a call, of an answer, of the first and of the longest wait before a repeat.
 PATIENT, QUICK = (20_000, 10_000, 1, 4), (20_000, 150, 1, 4)
 
 
-def there(*names):
+def there(*names: str) -> bool:
     """Whether these programs are on the machine."""
     return all(shutil.which(name) for name in names)
 
 
-def loaded(name):
+def loaded(name: str) -> types.ModuleType:
     """The module of a script."""
     loader = importlib.machinery.SourceFileLoader(name.replace("-", "_"), str(TOP / "scripts" / "tests" / name))
-    module = importlib.util.module_from_spec(importlib.util.spec_from_loader(loader.name, loader))
+    spec = importlib.util.spec_from_loader(loader.name, loader)
+    assert spec is not None, "a loader of a file makes one"
+    module = importlib.util.module_from_spec(spec)
     loader.exec_module(module)
     return module
 
@@ -51,9 +63,9 @@ FIRST = [bytes.fromhex(asked) for asked, _ in harness.vectors()["first example"]
 BUILT = tempfile.TemporaryDirectory(prefix="gate-library-")
 
 
-def numbers_of(kind, prefix=""):
+def numbers_of(kind: str, prefix: str = "") -> dict[str, int]:
     """The numbers that the header gives to the names of an enum, without their prefix."""
-    block = re.search(rf"enum bovtrila_{kind} {{(.*?)\n}};", HEADER.read_text(), re.S)[1]
+    [block] = re.findall(rf"enum bovtrila_{kind} {{(.*?)\n}};", HEADER.read_text(), re.S)
     found = re.findall(rf"\bBOVTRILA_{prefix}([A-Z_]+) = (\d+)", block)
     return {name: int(number) for name, number in found}
 
@@ -65,18 +77,19 @@ EARLIER = RESULT["ACCEPTED_EARLIER"], RESULT["REFUSED"]
 WAITS = RESULT["NO_ANSWER"], RESULT["FAULT"], RESULT["STRAY"], RESULT["CANCELLED"]
 
 
-def built(to, sources, compiler="gcc", flags=("-O2",), include=CLIENT):
+def built(to: pathlib.Path, sources: Iterable[str | pathlib.Path], compiler: str = "gcc", flags: Iterable[str] = ("-O2",),
+          include: str | pathlib.Path = CLIENT) -> pathlib.Path:
     """Builds a program of these sources, with the header's folder."""
-    words = [compiler, *WARNINGS, *flags, "-I", include, "-o", to, *sources]
+    words: list[str | pathlib.Path] = [compiler, *WARNINGS, *flags, "-I", include, "-o", to, *sources]
     done = subprocess.run(words, capture_output=True, text=True)
     if done.returncode != 0:
         raise AssertionError(f"{compiler} says of {to}:\n{done.stderr}")
     return to
 
 
-def calls_library(to):
+def calls_library(to: pathlib.Path) -> pathlib.Path:
     """Builds the library that stands before the C library's calls."""
-    words = ["gcc", "-Wall", "-Wextra", "-Werror", "-O1", "-shared", "-fPIC", "-o", to, TESTS / "calls.c", "-ldl"]
+    words: list[str | pathlib.Path] = ["gcc", "-Wall", "-Wextra", "-Werror", "-O1", "-shared", "-fPIC", "-o", to, TESTS / "calls.c", "-ldl"]
     subprocess.run(words, check=True)
     return to
 
@@ -88,41 +101,45 @@ class Gone(Exception):
 class Asker:
     """A running gate. `opened` is what its opening came to."""
 
-    def __init__(self, program, file, gate, addresses, times=PATIENT, run=(), **options):
+    def __init__(self, program: Word, file: pathlib.Path, gate: int, addresses: Sequence[str], times: Times = PATIENT,
+                 run: Iterable[Word] = (), **options: Any) -> None:
         words = [*run, program, "open", file, gate, ",".join(addresses), *times]
         self.process = subprocess.Popen([str(word) for word in words], stdin=subprocess.PIPE, stdout=subprocess.PIPE,
                                         text=True, bufsize=1, **options)
         self.opened = self.line()
 
-    def __enter__(self):
+    def __enter__(self) -> "Asker":
         return self
 
-    def __exit__(self, *_):
+    def __exit__(self, *_: object) -> None:
         self.end()
 
-    def line(self):
+    def line(self) -> Line:
         """The numbers of the next line, or no numbers where it has none."""
+        assert self.process.stdout, "a pipe"
         text = self.process.stdout.readline()
         if not text.endswith("\n"):
             raise Gone(f"the gate ended by status {self.process.wait(TIME)}")
         return [] if text == "none\n" else [int(word) if len(word) < 30 else word for word in text.split()]
 
-    def write(self, text):
+    def write(self, text: str) -> None:
+        assert self.process.stdin, "a pipe"
         try:
             self.process.stdin.write(text + "\n")
         except OSError:
             raise Gone("the gate takes no line") from None
 
-    def ask(self, text):
+    def ask(self, text: str) -> Line:
         self.write(text)
         return self.line()
 
-    def kill(self):
+    def kill(self) -> None:
         self.process.kill()
         self.end()
 
-    def end(self):
+    def end(self) -> int:
         """Its status, once it has ended."""
+        assert self.process.stdin and self.process.stdout, "pipes"
         with contextlib.suppress(OSError):
             self.process.stdin.close()
         if not self.process.stdout.closed:
@@ -131,14 +148,14 @@ class Asker:
         return self.process.wait(TIME)
 
 
-def create(program, file, gate, capacity, **options):
+def create(program: Word, file: pathlib.Path, gate: int, capacity: int, **options: Any) -> Line:
     """Makes a gate's file: the numbers that were told."""
     words = [str(word) for word in (program, "create", file, gate, capacity)]
     done = subprocess.run(words, capture_output=True, text=True, timeout=TIME, **options)
     return [int(word) for word in done.stdout.split()] or [None, 0, done.returncode]
 
 
-def act_of(frame):
+def act_of(frame: bytes) -> str:
     """The line that asks for the touch of a frame, or for an enquiry."""
     kind, *values = struct.unpack(model.FORMS[frame[2]], frame[2:])
     if kind == model.ENQUIRE:
@@ -150,7 +167,7 @@ def act_of(frame):
     return " ".join(map(str, (word, card, *more)))
 
 
-def told_by(answer, number):
+def told_by(answer: bytes, number: int) -> Line:
     """What the gate says of an answer's frame to its touch of this number, or to an enquiry."""
     if answer[2] == model.HOLDING:
         state, balance, front = struct.unpack(">BqI", answer[3:])
@@ -161,12 +178,12 @@ def told_by(answer, number):
     return [REPLIES[verdict >= 20], number, verdict, 0, change, balance]
 
 
-def earlier(told):
+def earlier(told: Line) -> Line:
     """What the gate says of the same reply, where the touch was made before the gate was opened."""
     return [EARLIER[REPLIES.index(told[0])], *told[1:]]
 
 
-def worked_out(frames):
+def worked_out(frames: Iterable[bytes]) -> list[Line]:
     """What a gate is told of these touches, the first ones of the example's server, by the model."""
     station = wire.vectors()[0].model()
     return [told_by(station.answer(frame), number) for number, frame in enumerate(frames, 1)]
@@ -176,10 +193,12 @@ class Careful:
     """A gate's program that does what the header says: it goes by replies alone, and settles what waits first. It asks
     for the touches of these frames, in their order."""
 
-    def __init__(self, frames):
-        self.frames, self.replies, self.opens = frames, {}, []
+    def __init__(self, frames: Sequence[bytes]) -> None:
+        self.frames = frames
+        self.replies: dict[int, Line] = {}
+        self.opens: list[int] = []
 
-    def note(self, told, replies):
+    def note(self, told: Line, replies: Sequence[int]) -> None:
         """Keeps a reply. One that was told before has to be the same."""
         reply = [REPLIES[replies.index(told[0])], *told[1:]]
         first = self.replies.setdefault(told[1], reply)
@@ -188,7 +207,7 @@ class Careful:
         if first is reply and is_travel and told[0] == RESULT["ACCEPTED"]:
             self.opens.append(told[1])
 
-    def settle(self, asker, told, replies=REPLIES):
+    def settle(self, asker: Asker, told: Line, replies: Sequence[int] = REPLIES) -> None:
         """Sends what waits again, until there is a reply. A server that is gone doesn't hold it up for good."""
         until = time.monotonic() + TIME
         while told[0] in WAITS:
@@ -199,44 +218,44 @@ class Careful:
             raise Gone(f"the gate says {told}")
         self.note(told, replies)
 
-    def begin(self, asker):
+    def begin(self, asker: Asker) -> int:
         """Settles what waits after an opening: how many touches were asked."""
         assert asker.opened == [CAUSE["OK"], 0, 0], asker.opened
         waiting = asker.ask("waiting")
         if not waiting:
             return 0
         self.settle(asker, asker.ask("resend"), EARLIER)
-        return waiting[1]
+        return int(waiting[1])
 
-    def run(self, asker, ask=None):
+    def run(self, asker: Asker, ask: Callable[[Asker, str], Line] | None = None) -> None:
         """Asks what is left."""
         for place in range(self.begin(asker), len(self.frames)):
             told = (ask or Asker.ask)(asker, act_of(self.frames[place]))
             assert told[1] in (place + 1, 0), f"touch {place + 1} was asked under number {told[1]}"
             self.settle(asker, told)
 
-    def told(self):
+    def told(self) -> list[Line | None]:
         """What was told of each touch, in their order."""
         return [self.replies.get(number) for number in range(1, len(self.frames) + 1)]
 
 
-def tag(gate, text=b"touches of one gate, by number"):
+def tag(gate: int, text: bytes = b"touches of one gate, by number") -> bytes:
     """What stands in a gate's file where a station's journal has a digest (docs/JOURNAL.md, "A gate's file")."""
     return text + struct.pack(">H", gate)
 
 
-def old_tag(gate):
+def old_tag(gate: int) -> bytes:
     """What stood there before version 1.1 of the library (docs/GATE_LIBRARY.md)."""
     return tag(gate, b"Bovtrila: the touches of gate ")
 
 
-def file_of(frames, capacity, gate):
+def file_of(frames: Sequence[bytes], capacity: int, gate: int) -> bytes:
     """The bytes of a gate's file with the touches of these frames."""
     content = model.journal_of(frames, capacity, 1, tag(gate))
     return content if len(frames) < capacity else content[:-1]
 
 
-def reading(content, gate):
+def reading(content: bytes, gate: int) -> Opening:
     """What opening a file comes to: the cause, the place, and the touches' frames (docs/GATE_LIBRARY.md)."""
     if len(content) < 65 or content[0] != 0xA5 or content[1:8] != b"OYSTERJ":
         return CAUSE["NOT_A_JOURNAL"], 0, []
@@ -249,7 +268,7 @@ def reading(content, gate):
         return CAUSE["OLD_TAG"], 0, []
     if cards != 1 or content[17:49] != tag(gate):
         return CAUSE["ANOTHER"], 0, []
-    touches = []
+    touches: list[bytes] = []
     while len(touches) < capacity:
         slot = content[64 + 64 * len(touches):][:64]
         if slot and slot[0] != 0xA5:
@@ -267,52 +286,52 @@ def reading(content, gate):
 class Log:
     """The calls that a gate makes, by the library that stands before them."""
 
-    def __init__(self, library, **more):
+    def __init__(self, library: pathlib.Path, **more: object) -> None:
         self.library, self.more = library, more
         self.file = tempfile.TemporaryFile("w+")
 
-    def options(self):
+    def options(self) -> dict[str, Any]:
         number = self.file.fileno()
         settings = {f"CALLS_{name}": str(value) for name, value in self.more.items()}
         return {"env": dict(os.environ, LD_PRELOAD=str(self.library), CALLS_LOG=str(number), **settings),
                 "pass_fds": [number]}
 
-    def lines(self):
+    def lines(self) -> list[list[str]]:
         self.file.seek(0)
         return [line.rstrip("\n").split(" ", 3) for line in self.file]
 
-    def calls(self):
+    def calls(self) -> list[tuple[str, int, bytes]]:
         """Each call's name, place and bytes."""
         return [(name, int(at), bytes.fromhex(digits)) for name, _, at, digits in self.lines()]
 
-    def numbers(self, wanted):
+    def numbers(self, wanted: str) -> list[int]:
         """Which calls of their process those of a name are, from 1 on."""
         return [int(number) for name, number, _, _ in self.lines() if name == wanted]
 
 
-def wait_for(holds, seconds=10):
+def wait_for(holds: Callable[[], object], seconds: float = 10) -> bool:
     """Waits until it holds: whether it does."""
     limit = time.monotonic() + seconds
     while time.monotonic() < limit:
         if holds():
             return True
         time.sleep(0.01)
-    return holds()
+    return bool(holds())
 
 
-def address_text(address):
+def address_text(address: Sequence[Any]) -> str:
     host, port = address[:2]
     return f"{host}:{port}"
 
 
-def needs(*names):
+def needs(*names: str) -> Callable[[Any], Any]:
     """Skips a test for which these programs have to be there."""
     lacking = [name for name in names if not there(name)]
-    return unittest.skipIf(lacking, f"{', '.join(lacking)}: not installed (packaging/debian-packages)")
+    return unittest.skipIf(bool(lacking), f"{', '.join(lacking)}: not installed (packaging/debian-packages)")
 
 
 @functools.cache
-def program(name):
+def program(name: str) -> pathlib.Path:
     """A program of the tests, built once: the asker, or the library that stands before the calls of the system."""
     if not there("gcc"):
         raise unittest.SkipTest("gcc: not installed (packaging/debian-packages)")
@@ -323,18 +342,18 @@ def program(name):
 class GateTest(unittest.TestCase):
     """Each test has a folder of its own in memory, and what it starts is ended with it."""
 
-    def setUp(self):
+    def setUp(self) -> None:
         folder = tempfile.TemporaryDirectory(dir=FAST)
         self.addCleanup(folder.cleanup)
         self.folder, self.asker = pathlib.Path(folder.name), program("asker")
         self.file = self.folder / "7"
 
-    def start(self, *words):
+    def start(self, *words: Word) -> Any:
         running = makers.Running(*words)
         self.addCleanup(running.kill)
         return running
 
-    def serve(self, cards=10, capacity=1000, lines=4, name="journal"):
+    def serve(self, cards: int = 10, capacity: int = 1000, lines: int = 4, name: str = "journal") -> Any:
         """A real server."""
         if not PROGRAM.is_file():
             raise FileNotFoundError(f"{PROGRAM} isn't there: run scripts/bovtrila, or 'rt ci'")
@@ -342,32 +361,32 @@ class GateTest(unittest.TestCase):
                           cards, "--capacity", capacity, "--listen", "127.0.0.1:0", "--lines", lines, "--connections",
                           1_000_000)
 
-    def recorded(self, cards=10, name="journal"):
+    def recorded(self, cards: int = 10, name: str = "journal") -> list[bytes]:
         """The touches of the real server's journal."""
         table = model.Table(EXAMPLE.read_text())
         return model.journal((self.folder / name).read_bytes(), table, cards)[0]
 
-    def planted(self):
+    def planted(self) -> Any:
         """A server over the model."""
         server = makers.Planted()
         self.addCleanup(server.end)
         return server
 
-    def create(self, gate=7, capacity=1000, **options):
+    def create(self, gate: int = 7, capacity: int = 1000, **options: Any) -> Line:
         return create(self.asker, self.file, gate, capacity, **options)
 
-    def open(self, addresses, gate=7, times=PATIENT, **options):
+    def open(self, addresses: str | Sequence[str], gate: int = 7, times: Times = PATIENT, **options: Any) -> Asker:
         """A gate that is open, or what its opening came to."""
         addresses = [addresses] if isinstance(addresses, str) else addresses
         asker = Asker(self.asker, self.file, gate, addresses, times, **options)
         self.addCleanup(asker.kill)
         return asker
 
-    def write(self, content):
+    def write(self, content: bytes) -> None:
         self.file.write_bytes(content)
 
 
-def replied_to(frame):
+def replied_to(frame: bytes) -> bytes:
     """A reply to a touch."""
     return model.framed(">BHIBiq", model.REPLY, *struct.unpack(">HI", frame[3:9]), 8, 0, 0)
 
@@ -376,13 +395,14 @@ class Told:
     """A server that gives the answers of a list, one for each request, and keeps what it was asked. Where none is left,
     it hangs up."""
 
-    def __init__(self, test, answers=(), host="127.0.0.1"):
-        self.answers, self.asked = list(answers), []
+    def __init__(self, test: unittest.TestCase, answers: Iterable[bytes] = (), host: str = "127.0.0.1") -> None:
+        self.answers = list(answers)
+        self.asked: list[bytes] = []
         door = Door(self.serve, (host, 0))
         self.text = door.text
         test.addCleanup(door.shut)
 
-    def serve(self, connection):
+    def serve(self, connection: socket.socket) -> None:
         with connection:
             while len(head := connection.recv(2, socket.MSG_WAITALL)) == 2:
                 self.asked.append(head + connection.recv(wire.number_at(head, 0, 2), socket.MSG_WAITALL))
@@ -391,13 +411,13 @@ class Told:
                 connection.sendall(self.answers.pop(0))
 
 
-def journey(gate, cards):
+def journey(gate: int, cards: Any) -> Any:
     """Touches of a gate's cards, numbered from 1 on."""
     return makers.touches_of(gate, cards)
 
 
 @contextlib.contextmanager
-def of(owner, program):
+def of(owner: Callable[[], GateTest], program: pathlib.Path) -> Iterator[GateTest]:
     """A test of a class that asks with another program."""
     case = owner()
     case.setUp()

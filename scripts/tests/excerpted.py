@@ -18,10 +18,10 @@ MEASURED = """<!-- measured: tls -->
 
 
 class Excerpts(unittest.TestCase):
-    def taken(self, *rows):
-        return list(excerpts.taken(excerpts.Rows("tls", *rows), measuring.tables(MEASURED)))
+    def taken(self, columns: tuple[str, ...], keys: tuple[tuple[str, ...], ...] = (), label: str = "") -> list[list[str]]:
+        return list(excerpts.taken(excerpts.Rows("tls", columns, keys, label), measuring.tables(MEASURED)))
 
-    def test_the_tables_for_users_are_those_of_the_measurements(self):
+    def test_the_tables_for_users_are_those_of_the_measurements(self) -> None:
         page, measured = ((TOP / "docs" / name).read_text() for name in ("PERFORMANCE.md", "MEASUREMENTS.md"))
         shown = {name: lines for name, lines in measuring.tables(page).items() if name in excerpts.EXCERPTS}
         self.assertEqual(excerpts.excerpts(measured), shown, "run scripts/dev/measure-all --excerpts")
@@ -30,22 +30,25 @@ class Excerpts(unittest.TestCase):
         page, measured = ((TOP / "docs" / name).read_text() for name in ("PERFORMANCE.md", "MEASUREMENTS.md"))
         self.assertEqual(measuring.tables(page).keys() & measuring.tables(measured).keys(), set())
 
-    def test_rows_by_their_first_cells_and_columns_by_their_heads(self):
+    def test_rows_by_their_first_cells_and_columns_by_their_heads(self) -> None:
         columns = ("Asked", "Gates", "Through TLS", "Through TLS 2")
         self.assertEqual(self.taken(columns, (("enquiries",), ("touches", "8"))),
                          [["enquiries", "1", "14,989", "64"], ["touches", "8", "7,816", "1,006"]])
         self.assertEqual(self.taken(("Gates", "A second")), [["1", "8,763"], ["8", "8,882"], ["1", "61,369"]])
         self.assertEqual(self.taken(("Asked", "Gates"), (("touches", "8"),), "slow"), [["slow", "8"]])
 
-    def test_what_the_measurements_lack_is_refused(self):
-        for rows, said in ((("tls", ("Asked", "Gate")), "the table 'tls' of the measurements has no column 'Gate'"),
-                           (("tls", ("Through TLS 3",)), "the table 'tls' of the measurements has no column 'Through TLS 3'"),
-                           (("tls", ("Asked",), (("touches", "64"),)), "the table 'tls' of the measurements has no row 'touches | 64'"),
-                           (("gates", ("Asked",)), "the measurements have no table 'gates'")):
+    def test_what_the_measurements_lack_is_refused(self) -> None:
+        rows_of = excerpts.Rows
+        for rows, said in ((rows_of("tls", ("Asked", "Gate")), "the table 'tls' of the measurements has no column 'Gate'"),
+                           (rows_of("tls", ("Through TLS 3",)),
+                            "the table 'tls' of the measurements has no column 'Through TLS 3'"),
+                           (rows_of("tls", ("Asked",), (("touches", "64"),)),
+                            "the table 'tls' of the measurements has no row 'touches | 64'"),
+                           (rows_of("gates", ("Asked",)), "the measurements have no table 'gates'")):
             with self.subTest(said), self.assertRaisesRegex(excerpts.Wrong, "^" + said.replace("|", r"\|") + "$"):
-                list(excerpts.taken(excerpts.Rows(*rows), measuring.tables(MEASURED)))
+                list(excerpts.taken(rows, measuring.tables(MEASURED)))
 
-    def test_a_table_is_put_in_the_place_of_the_old_one(self):
+    def test_a_table_is_put_in_the_place_of_the_old_one(self) -> None:
         page = "One\n\n<!-- measured: a -->\n\n| old |\n|---|\n| 1 |\n| 2 |\n\nTwo\n\n<!-- measured: b -->\n\nThree\n"
         self.assertEqual(measuring.put(page, {"a": ["| new |", "|---|", "| 3 |"], "b": ["| first |"]}),
                          "One\n\n<!-- measured: a -->\n\n| new |\n|---|\n| 3 |\n\nTwo\n\n<!-- measured: b -->\n\n| first |\n\nThree\n")

@@ -6,12 +6,17 @@ import shutil
 import subprocess
 import tempfile
 import time
+from collections.abc import Iterable, Mapping, Sequence
+from typing import Any, TypeAlias
 
 import harness
 import model
 import serving
 import wire
 from harness import EXAMPLE, PROGRAM, REVISED, TIME, TOP
+
+# An argument of the script.
+Word: TypeAlias = str | pathlib.Path
 
 SCRIPT = TOP / "scripts" / "next-journal"
 FIRST, PRICES = model.Table(EXAMPLE.read_text()), model.Table(REVISED.read_text())
@@ -26,7 +31,7 @@ HELD = {1: 1650, 2: -700, 3: 9550, 4: 1100, 5: 0}
 CARRIED = {1: 1650, 2: 0, 3: 9000, 4: 1100, 5: 0}
 
 
-def touches():
+def touches() -> list[bytes]:
     """The frames of a history that comes to it. The last two are revisions: to the prices from 2025-01-07, and back."""
     acts = [(model.ISSUE, card, 0) for card in HELD]
     acts += [(model.TOP_UP, 1, 2000), (model.ENTER, 1, 2), (model.LEAVE, 1, 1), (model.TOP_UP, 2, 200),
@@ -35,7 +40,7 @@ def touches():
              (model.TOP_UP, 4, 2000), (model.ENTER, 4, 2)]
     frames = []
     for number, (kind, card, value) in enumerate(acts, 1):
-        words = (MORNING + number,) if kind == model.ISSUE else (value, MORNING + number)
+        words = [MORNING + number] if kind == model.ISSUE else [value, MORNING + number]
         frames.append(model.touch(kind, 7, number, card, *words))
     frames.append(model.touch(model.REVISE, 65_535, 20_095, 0, PRICES.digest, 20_095, 0))
     frames.append(model.touch(model.REVISE, 65_535, FAR, 0, FIRST.digest, FAR, 0))
@@ -45,7 +50,8 @@ def touches():
 class Station:
     """A station in a folder, with a full journal of such a history, and how its server is started and stopped."""
 
-    def __init__(self, folder, capacity=None, frames=None, more=(), cards=10):
+    def __init__(self, folder: pathlib.Path, capacity: int | None = None, frames: Sequence[bytes] | None = None,
+                 more: Iterable[Word] = (), cards: int = 10) -> None:
         self.folder, self.config, self.pid = folder / "lib", folder / "serve.conf", folder / "pid"
         self.folder.mkdir()
         shutil.copy(EXAMPLE, self.folder / "first.toml")
@@ -61,37 +67,37 @@ class Station:
                            f"{self.folder} --program {PROGRAM} --user {pwd.getpwuid(os.geteuid()).pw_name} &\n"
                            f"echo $! >{self.pid}\n")
         stopper = f"test ! -e {self.pid} || kill $(cat {self.pid}) 2>/dev/null; rm -f {self.pid}"
-        self.words = ["station.journal", "--folder", self.folder, "--config", self.config, "--program", PROGRAM,
-                      "--user",
-                      pwd.getpwuid(os.geteuid()).pw_name, "--stop", stopper, "--start", f"sh {starter}", "--watch", "0",
-                      "--journal", "next.journal", "--capacity", "5000", *more]
+        self.words: list[Word] = ["station.journal", "--folder", self.folder, "--config", self.config, "--program", PROGRAM,
+                                  "--user",
+                                  pwd.getpwuid(os.geteuid()).pw_name, "--stop", stopper, "--start", f"sh {starter}", "--watch", "0",
+                                  "--journal", "next.journal", "--capacity", "5000", *more]
 
-    def start(self):
+    def start(self) -> None:
         """Starts the server by the words that are there now, and waits until it answers."""
-        subprocess.run(["sh", "-c", self.words[self.words.index("--start") + 1]], check=True)
+        subprocess.run(["sh", "-c", self.word_after("--start")], check=True)
         limit = time.monotonic() + TIME
         while serving.front_at(self.listen) is None and time.monotonic() < limit:
             time.sleep(0.02)
 
-    def stop(self):
-        subprocess.run(["sh", "-c", self.words[self.words.index("--stop") + 1]])
+    def stop(self) -> None:
+        subprocess.run(["sh", "-c", self.word_after("--stop")])
 
-    def ask(self, frame):
+    def ask(self, frame: bytes) -> bytes:
         with wire.Connection(wire.address(self.listen), TIME) as line:
             line.send(frame)
             return line.take()
 
-    def run(self, *more, how="--settled"):
+    def run(self, *more: Word, how: str = "--settled") -> tuple[int, str, str]:
         """Status, standard output and standard error of a run to its end."""
         return self.ended(*self.words, how, *more)
 
-    def alone(self, *more, percent="90%", **options):
+    def alone(self, *more: Word, percent: str = "90%", **options: Any) -> tuple[int, str, str]:
         """The same of a run that nobody attends, without a terminal. Later words count."""
         return self.ended("--when-above", percent, *self.words[1:], *more, stdin=subprocess.DEVNULL,
                           start_new_session=True, **options)
 
     @staticmethod
-    def ended(*words, env=(), **options):
+    def ended(*words: Word, env: Mapping[str, str] | Iterable[tuple[str, str]] = (), **options: Any) -> tuple[int, str, str]:
         here = {name: value for name, value in os.environ.items() if name != "JOURNAL_STREAM"}
         done = subprocess.run([str(word) for word in (SCRIPT, *words)], capture_output=True, text=True, timeout=RUN,
                               env={**here, **dict(env)}, **options)
@@ -99,21 +105,25 @@ class Station:
             raise AssertionError(done.stderr)
         return done.returncode, done.stdout, done.stderr
 
-    def other_start(self, text):
+    def word_after(self, option: str) -> str:
+        """The argument of an option of the words that are there now."""
+        return str(self.words[self.words.index(option) + 1])
+
+    def other_start(self, text: str) -> tuple[str, str]:
         """A command that starts the server, but does this if the settings name the new journal."""
         starter = self.folder.parent / f"start-{abs(hash(text))}"
-        start = self.words[self.words.index("--start") + 1]
+        start = self.word_after("--start")
         starter.write_text(f"if grep -q next.journal {self.config}; then\n{text}\nelse\n{start}\nfi\n")
         return "--start", f"sh {starter}"
 
-    def other_program(self, text):
+    def other_program(self, text: str) -> tuple[str, pathlib.Path]:
         """The program, but with this in the place of the balances of the new journal: `$*` are its arguments."""
         program = self.folder.parent / "program"
         program.write_text(f'#!/bin/sh\ncase "$*" in\nbalances*new.journal*) {text} ;;\n*) exec {PROGRAM} "$@" ;;\nesac\n')
         program.chmod(0o755)
         return "--program", program
 
-    def tree(self):
+    def tree(self) -> dict[pathlib.Path, bytes]:
         """Each file of the station with its bytes."""
         return {path: path.read_bytes() for path in sorted(self.folder.parent.rglob("*")) if path.is_file()}
 
@@ -121,19 +131,19 @@ class Station:
 class Stations(harness.ProgramTest):
     """Tests with such stations."""
 
-    def setUp(self):
+    def setUp(self) -> None:
         room = tempfile.TemporaryDirectory(prefix="full-journals-")
         self.addCleanup(room.cleanup)
         self.room, self.made = pathlib.Path(room.name), 0
 
-    def station(self, **options):
+    def station(self, **options: Any) -> Station:
         self.made += 1
         (self.room / str(self.made)).mkdir()
         station = Station(self.room / str(self.made), **options)
         self.addCleanup(station.stop)
         return station
 
-    def assert_carried(self, station, count=8):
+    def assert_carried(self, station: Station, count: int = 8) -> None:
         """The server runs on the new journal, in which each card has what was carried."""
         work = station.folder / "after-station.journal"
         self.assertEqual(str(serving.words_of(station.config)), "--table prices.toml --journal next.journal --cards 10 "

@@ -13,6 +13,9 @@ import subprocess
 import sys
 import tempfile
 import unittest
+from collections.abc import Iterable, Sequence
+from types import TracebackType
+from typing import IO, Any, TypeAlias
 
 import wire
 
@@ -25,6 +28,12 @@ EXAMPLE = TOP / "docs" / "example.toml"
 # The example table with two other prices, for revisions.
 REVISED = TOP / "docs" / "vectors-revised.toml"
 
+# An argument of a program, and what a run of it gives: the status, the output, and what stands on standard error.
+Word: TypeAlias = str | bytes | os.PathLike[str]
+Ran: TypeAlias = tuple[int, bytes, str]
+# What a test failed by, as unittest has it.
+Error: TypeAlias = tuple[type[BaseException], BaseException, TracebackType] | tuple[None, None, None]
+
 # How many seconds a run of the program may take.
 TIME = 60
 
@@ -33,7 +42,7 @@ TIME = 60
 HANDED_OUT = int(pathlib.Path("/proc/sys/net/ipv4/ip_local_port_range").read_text().split()[0])
 
 
-def free_port():
+def free_port() -> int:
     """A port of 127.0.0.1 on which nobody listens, and which the system hands to nobody who doesn't name it: a server can
     take it later, whatever others do meanwhile."""
     while True:
@@ -42,13 +51,13 @@ def free_port():
             return port
 
 
-def kit():
+def kit() -> pathlib.Path:
     """The folder of the toolchain's kit."""
     said = subprocess.run(["rt", "doc"], capture_output=True, check=True, text=True)
     return pathlib.Path(said.stdout.strip()).parent
 
 
-def library(folder, name, source):
+def library(folder: pathlib.Path, name: str, source: str) -> pathlib.Path:
     """Builds a library that is put before the C library's, from this text, in the folder."""
     text, built = folder / f"{name}.c", folder / f"{name}.so"
     text.write_text(source)
@@ -61,26 +70,26 @@ def library(folder, name, source):
 BESIDE = re.compile(r"^(?:  .*|note: .*|new journal .*|(?:pairs|interchanges|holidays) \d+)\n", re.M)
 
 
-def run(words, given=b"", **options):
+def run(words: Sequence[Word], given: bytes = b"", **options: Any) -> Ran:
     """Runs the program: its status, its output, and what stands on standard error, but for what scripts/tests/told-faults
     looks at: the line behind that of a fault, and the notes on a table."""
     status, out, err = run_whole(words, given, **options)
     return status, out, fault_of(err)
 
 
-def run_whole(words, given=b"", program=PROGRAM, **options):
+def run_whole(words: Sequence[Word], given: bytes = b"", program: Word = PROGRAM, **options: Any) -> Ran:
     """Runs the program: its status, its output, and all that stands on standard error."""
     words = [os.fsencode(word) for word in (program, *words)]
     done = subprocess.run(words, input=given, capture_output=True, timeout=TIME, **options)
     return done.returncode, done.stdout, done.stderr.decode()
 
 
-def fault_of(err):
+def fault_of(err: str) -> str:
     """What stands on standard error without the line behind that of a fault, and without notes."""
     return BESIDE.sub("", err)
 
 
-def first_line(stream):
+def first_line(stream: IO[str] | IO[bytes]) -> str:
     """The first line that a server says on this stream, but for the one of a journal that it has made: 'listening ADDR',
     where it serves."""
     line = stream.readline()
@@ -88,7 +97,7 @@ def first_line(stream):
     return first_line(stream) if text.startswith("new journal ") else text
 
 
-def check(table, path="table.toml", **options):
+def check(table: bytes, path: str | bytes = "table.toml", **options: Any) -> Ran:
     """Checks a fare table of these bytes, in a file of this name."""
     with tempfile.TemporaryDirectory() as folder:
         file = os.path.join(os.fsencode(folder), os.fsencode(path))
@@ -97,22 +106,22 @@ def check(table, path="table.toml", **options):
         return run([b"check", b"--table", file], **options)
 
 
-def valid(stations, singles, caps, table):
+def valid(stations: int, singles: int, caps: int, table: bytes) -> Ran:
     """What is written for a valid fare table."""
     digest = hashlib.sha256(table).hexdigest()
     return 0, f"stations {stations}\nsingles {singles}\ncaps {caps}\ndigest {digest}\n".encode(), ""
 
 
-def lines(texts):
+def lines(texts: Iterable[str]) -> bytes:
     """The bytes of a text of these lines."""
     return "".join(text + "\n" for text in texts).encode()
 
 
-def vectors(server="example"):
+def vectors(server: str = "example") -> dict[str, list[tuple[str, str]]]:
     """The frames of a server of docs/vectors.txt: pairs of a request and its answer, by the section that they stand
     in."""
     station = next(station for station in wire.vectors() if station.name == server)
-    sections = {name: [] for name in station.sections}
+    sections: dict[str, list[tuple[str, str]]] = {name: [] for name in station.sections}
     for vector in station.vectors:
         sections[vector.section].append((vector.request.hex(), vector.answer.hex()))
     return sections
@@ -121,56 +130,57 @@ def vectors(server="example"):
 class Result(unittest.TextTestResult):
     """Counts each subtest as one, and prints what fails as soon as it does."""
 
-    def __init__(self, *words, **options):
+    def __init__(self, *words: Any, **options: Any) -> None:
         super().__init__(*words, **options)
         self.passed = 0
         self.failed = 0
 
-    def addSuccess(self, test):
+    def addSuccess(self, test: unittest.TestCase) -> None:
         super().addSuccess(test)
         self.passed += 1
 
-    def addError(self, test, error):
+    def addError(self, test: unittest.TestCase, error: Error) -> None:
         super().addError(test, error)
         self.tell(test, error)
 
-    def addFailure(self, test, error):
+    def addFailure(self, test: unittest.TestCase, error: Error) -> None:
         super().addFailure(test, error)
         self.tell(test, error)
 
-    def addSkip(self, test, reason):
+    def addSkip(self, test: unittest.TestCase, reason: str) -> None:
         """Tells each reason once."""
         if reason not in (told for _, told in self.skipped):
             print(f"not run: {reason}", flush=True)
         super().addSkip(test, reason)
 
-    def addSubTest(self, test, subtest, error):
+    def addSubTest(self, test: unittest.TestCase, subtest: unittest.TestCase, error: Error | None) -> None:
         super().addSubTest(test, subtest, error)
         if error is None:
             self.passed += 1
         else:
             self.tell(subtest, error)
 
-    def tell(self, test, error):
+    def tell(self, test: unittest.TestCase, error: Error) -> None:
         self.failed += 1
-        print(f"{test}: {error[0].__name__}: {error[1]}", flush=True)
+        print(f"{test}: {error[0].__name__ if error[0] else ''}: {error[1]}", flush=True)
 
 
 class ProgramTest(unittest.TestCase):
     """Tests that need the built program."""
 
     @classmethod
-    def setUpClass(cls):
+    def setUpClass(cls) -> None:
         if not PROGRAM.is_file():
             raise FileNotFoundError(f"{PROGRAM} isn't there: run 'rt run' in crates/tap_server, or 'rt ci'")
 
 
-def main():
+def main() -> None:
     """Runs the tests of the script that was started, and ends with its status."""
     tests = unittest.defaultTestLoader.loadTestsFromModule(sys.modules["__main__"])
     if len(sys.argv) > 1:
         tests = unittest.defaultTestLoader.loadTestsFromNames(sys.argv[1:], sys.modules["__main__"])
     with open(os.devnull, "w") as silent:
         result = unittest.TextTestRunner(silent, resultclass=Result).run(tests)
+    assert isinstance(result, Result)
     print(f"{result.passed} passed, {result.failed} failed")
     sys.exit(1 if result.failed or not (result.passed or result.skipped) else 0)

@@ -12,26 +12,26 @@ SCRIPT, FOLDER = TOP / "scripts" / "dev" / "pictures", TOP / "docs" / "pictures"
 SHOWN = re.compile(r"^!\[(?P<alt>[^\]]*)\]\((?P<path>[^)]*)\)$", re.M)
 
 
-def check(tree=TOP):
+def check(tree: str | pathlib.Path = TOP) -> tuple[int, str]:
     """Status and output of a look over the pictures of a tree."""
     done = subprocess.run([SCRIPT, "--check", "--tree", tree], capture_output=True, text=True)
     return done.returncode, done.stdout + done.stderr
 
 
 class Pictures(unittest.TestCase):
-    def test_each_is_the_one_of_its_text(self):
+    def test_each_is_the_one_of_its_text(self) -> None:
         self.assertEqual(check(), (0, ""))
         self.assertEqual({file.stem for file in FOLDER.glob("*.svg")}, {file.stem for file in FOLDER.glob("*.txt")})
 
-    def test_each_is_shown_with_its_description(self):
-        found = {}
+    def test_each_is_shown_with_its_description(self) -> None:
+        found: dict[pathlib.Path, set[str]] = {}
         for page in (TOP / "README.md", *(TOP / "docs").glob("*.md")):
             for match in SHOWN.finditer(page.read_text()):
                 found.setdefault((page.parent / match["path"]).resolve(), set()).add(match["alt"])
-        told = {file.with_suffix(".svg"): {re.search(r"^alt: (.*)$", file.read_text(), re.M)[1]} for file in FOLDER.glob("*.txt")}
+        told = {file.with_suffix(".svg"): {re.findall(r"^alt: (.*)$", file.read_text(), re.M)[0]} for file in FOLDER.glob("*.txt")}
         self.assertEqual(found, told)
 
-    def test_a_text_that_was_changed_or_is_wrong_is_seen(self):
+    def test_a_text_that_was_changed_or_is_wrong_is_seen(self) -> None:
         for old, new, said in (
                 ("number 3\n", "number 4\n", "docs/pictures/lost-answer.svg\npictures: these aren't the ones of their texts"),
                 ("1 > 2: touch", "1 to 2: touch", "lost-answer.txt: '1 to 2: touch in, number 3' is no line of a sequence"),

@@ -7,20 +7,25 @@ import signal
 import subprocess
 import tempfile
 import time
+from collections.abc import Sequence
+from typing import TypeAlias
 
 from harness import free_port
+
+# An argument of a program.
+Word: TypeAlias = str | int | pathlib.Path
 
 # How many seconds it may take to begin and to end.
 PATIENCE = 60
 
 
-def programs():
+def programs() -> pathlib.Path | None:
     """The folder of Debian's programs of PostgreSQL, the newest one, or None."""
     found = sorted(pathlib.Path("/usr/lib/postgresql").glob("*/bin/initdb"), key=lambda path: int(path.parts[-3]))
     return found[-1].parent if found else None
 
 
-def why_not():
+def why_not() -> str | None:
     """Why there can be none here, or None."""
     if programs() is None:
         return "PostgreSQL isn't here (apt-get install postgresql)"
@@ -29,7 +34,7 @@ def why_not():
     return None
 
 
-def has_user():
+def has_user() -> bool:
     try:
         return pwd.getpwnam("postgres") is not None
     except KeyError:
@@ -40,7 +45,7 @@ class Cluster:
     """A running PostgreSQL. For tests its data is in memory where there is a folder for that, and isn't synced: none of
     them takes the machine's power away. Below a folder that is named it is as Debian has it."""
 
-    def __init__(self, below=None, before=()):
+    def __init__(self, below: pathlib.Path | None = None, before: Sequence[str] = ()) -> None:
         memory = "/dev/shm" if os.access("/dev/shm", os.W_OK) else None
         self.folder = pathlib.Path(tempfile.mkdtemp(prefix="network-postgres-", dir=below or memory))
         quick = [] if below else ["-c", "fsync=off", "-c", "autovacuum=off"]
@@ -58,13 +63,15 @@ class Cluster:
             stdin=subprocess.DEVNULL, stdout=self.log, stderr=self.log, cwd="/", start_new_session=True)
         self.wait()
 
-    def words(self, name, *words):
-        return [*self.before, str(programs() / name), *map(str, words)]
+    def words(self, name: str, *words: Word) -> list[str]:
+        folder = programs()
+        assert folder, "why_not() says that it is there"
+        return [*self.before, str(folder / name), *map(str, words)]
 
-    def run(self, name, *words):
+    def run(self, name: str, *words: Word) -> None:
         subprocess.run(self.words(name, *words), check=True, capture_output=True, timeout=PATIENCE, cwd="/")
 
-    def wait(self):
+    def wait(self) -> None:
         """Waits until it takes connections."""
         limit = time.monotonic() + PATIENCE
         while True:
@@ -76,12 +83,12 @@ class Cluster:
                     raise RuntimeError((self.folder / "log").read_text()) from None
                 time.sleep(0.05)
 
-    def database(self, name):
+    def database(self, name: str) -> str:
         """The URL of a new database."""
         self.run("createdb", "-h", "127.0.0.1", "-p", self.port, "-U", "postgres", name)
         return f"postgresql://postgres@127.0.0.1:{self.port}/{name}"
 
-    def stop(self):
+    def stop(self) -> None:
         self.process.send_signal(signal.SIGINT)
         try:
             self.process.wait(PATIENCE)
