@@ -153,8 +153,9 @@ class Board:
         begun, trouble, day = time.monotonic(), None, None
         try:
             day = day_of(self.source(target), now.day, self.pages.zone)
-        except (Wrong, OSError) as wrong:
-            trouble = str(wrong)
+        except Exception as error:
+            # The thread goes on, and tries again after the next change.
+            trouble = str(error)
         ended = time.monotonic()
         with self.changed:
             self.day, self.trouble, self.read = day, trouble, () if trouble else mark

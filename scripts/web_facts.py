@@ -34,7 +34,9 @@ def script(name: str) -> Any:
     """A script that is beside this file, as a module."""
     path = pathlib.Path(__file__).resolve().parent / name
     loader = importlib.machinery.SourceFileLoader(name, str(path))
-    module = importlib.util.module_from_spec(importlib.machinery.ModuleSpec(name, loader, origin=str(path)))
+    spec = importlib.util.spec_from_file_location(name, path, loader=loader)
+    assert spec is not None
+    module = importlib.util.module_from_spec(spec)
     loader.exec_module(module)
     return module
 

@@ -159,7 +159,10 @@ def zone_of(text: str) -> zoneinfo.ZoneInfo:
 
 def stations_of(tables: Sequence[str]) -> Stations:
     """The names of the stations, by the first table."""
-    found: Stations = script("day-report").stations_of(tables[0]) if tables else Stations()
+    try:
+        found: Stations = script("day-report").stations_of(tables[0]) if tables else Stations()
+    except history_rows.Wrong as wrong:
+        raise Wrong(str(wrong)) from None
     return found
 
 

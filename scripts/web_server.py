@@ -7,6 +7,7 @@ import re
 import socket
 import threading
 import time
+import traceback
 import urllib.parse
 from collections.abc import Callable, Mapping
 from typing import Any, NamedTuple
@@ -95,12 +96,22 @@ class Handler(http.server.BaseHTTPRequestHandler):
             self.raw_requestline = self.rfile.readline(HEAD)
             if self.parse_request():
                 self.close_connection = True
-                self.reply(self.answer())
+                self.reply(self.safe_answer())
         except Refused as refused:
             self.reply(refused.answer)
         except (OSError, ValueError):
             # One that hangs up, or reads nothing.
             pass
+
+    def safe_answer(self) -> Answer:
+        """The answer to a request whose head is read, also if the program has an error."""
+        try:
+            return self.answer()
+        except Refused:
+            raise
+        except Exception:
+            traceback.print_exc()
+            return refusal(500, "this program has an error, which its log describes")
 
     def answer(self) -> Answer:
         """The answer to a request whose head is read."""

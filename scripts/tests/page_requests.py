@@ -14,7 +14,7 @@ class Requests(unittest.TestCase):
     """A server of one page and one path for other names, with short limits."""
 
     def setUp(self) -> None:
-        self.asked = []
+        self.asked: list[tuple[str, str]] = []
         self.gate = threading.Event()
         self.gate.set()
         for name, value in (("SECONDS", 1), ("MOST", 4)):
@@ -27,17 +27,19 @@ class Requests(unittest.TestCase):
         self.addCleanup(self.web.server_close)
         self.addCleanup(self.web.shutdown)
 
-    def answer(self, path, query):
+    def answer(self, path: str, query: str) -> Answer:
         self.asked.append((path, query))
         self.gate.wait(TIME)
+        if path == "/error":
+            raise KeyError("secret")
         return Answer(200, "text/html", b"<p>page</p>") if path in ("/", "/metrics") else web_server.refusal(404, "none")
 
-    def connect(self):
+    def connect(self) -> socket.socket:
         line = socket.create_connection(self.web.socket.getsockname(), TIME)
         self.addCleanup(line.close)
         return line
 
-    def sent(self, request, line=None):
+    def sent(self, request: bytes, line: socket.socket | None = None) -> bytes:
         """What is answered to these bytes, until the server closes the connection."""
         line = line or self.connect()
         line.sendall(request)
@@ -46,7 +48,7 @@ class Requests(unittest.TestCase):
             answer += more
         return answer
 
-    def status(self, request):
+    def status(self, request: bytes) -> int | None:
         answer = self.sent(request)
         return int(answer.split()[1]) if answer else None
 
@@ -101,6 +103,11 @@ class Requests(unittest.TestCase):
         self.assertEqual(self.status(b"GET / HTTP/1.1\r\nHost: 127.0.0.1\r\nHost: 127.0.0.1\r\n\r\n"), 421)
         # Prometheus may ask by any name.
         self.assertEqual(self.status(b"GET /metrics HTTP/1.1\r\nHost: machine:9814\r\n\r\n"), 200)
+
+    def test_an_error_of_the_program_is_answered_and_not_shown(self) -> None:
+        with unittest.mock.patch("traceback.print_exc") as log:
+            answer = self.sent(b"GET /error HTTP/1.1\r\n\r\n")
+        self.assertEqual((answer.split()[1], b"secret" in answer, log.call_count), (b"500", False, 1))
 
     def test_a_slow_request_is_let_go_though_bytes_come(self) -> None:
         line, begun = self.connect(), time.monotonic()

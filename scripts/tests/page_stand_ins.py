@@ -7,6 +7,7 @@ import struct
 import tempfile
 import time
 import unittest
+from collections.abc import Iterator
 
 import model
 import paged
@@ -34,10 +35,11 @@ class Running(unittest.TestCase):
         self.town = paged.Town(begin, max(now, begin + 60))
         self.town.lay(self.folder)
 
-    def export(self, *more, **options):
+    def export(self, env: dict[str, str] | None = None) -> paged.Exporter:
+        """An exporter over the town's journal."""
         words = ["--server", "127.0.0.1:1", "--journal", self.folder / "journal", "--table", EXAMPLE, "--program",
-                 self.folder / "stand-in", *more]
-        exporter = paged.Exporter(*words, **options)
+                 self.folder / "stand-in"]
+        exporter = paged.Exporter(*words, env=env)
         self.addCleanup(exporter.end)
         return exporter
 
@@ -45,7 +47,7 @@ class Running(unittest.TestCase):
 class StandIns(Running):
     """What the page shows, and what a program that fails does to it."""
 
-    def judged(self):
+    def judged(self) -> Iterator[tuple[int, ...]]:
         """The town's touches: kind, gate, card, moment, verdict and balance of each."""
         for frame, answer in zip(self.town.frames, self.town.answers):
             kind, gate, _, card, *act = struct.unpack(model.FORMS[frame[2]], frame[2:])

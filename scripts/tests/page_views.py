@@ -8,12 +8,15 @@ import tempfile
 import unittest
 import unittest.mock
 import zoneinfo
+from collections.abc import Mapping, Sequence
+from typing import Any
 
 import model
 import paged
 import web_facts
 import web_history
 import web_view
+import wire
 from day_charts import Pence
 from day_page import Stations
 from harness import EXAMPLE, TOP
@@ -31,18 +34,18 @@ FOUND = {**web_facts.status.nothing(NOW), "server": "bovtrila", "address": "127.
          "full_on": "2025-01-28"}
 
 
-def pages(names=()):
-    return web_view.Pages(LONDON, Stations(dict(names).items()), 15)
+def pages(names: Mapping[int, str] = {}) -> web_view.Pages:
+    return web_view.Pages(LONDON, Stations(names.items()), 15)
 
 
-def now_of(**changes):
+def now_of(**changes: Any) -> Now:
     found = {**FOUND, **changes.pop("found", {})}
     gates = [Gate(7, "number 4, touch out, 2025-01-06T14:20:00Z, 10 minutes ago", -600.0)]
     made = Now(NOW, found, [("touches", "4,321")], Since(BEGIN, False), "2025-01-06", 1234, Slots(8, 3, 0), gates, [])
     return dataclasses.replace(made, **changes)
 
 
-def day_of(**changes):
+def day_of(**changes: Any) -> Day:
     counts = [0] * 96
     ins, outs = [*counts], [*counts]
     ins[13], ins[14], outs[15] = 40, 7, 20
@@ -54,7 +57,7 @@ def day_of(**changes):
 class Views(unittest.TestCase):
     """The pages, over facts that are written here."""
 
-    def shown(self, now, day, trouble=None):
+    def shown(self, now: Now | None, day: Day | None, trouble: str | None = None) -> paged.Page:
         return paged.Page(pages().station(now, day, trouble))
 
     def test_the_page_has_the_numbers_of_its_facts(self) -> None:
@@ -81,8 +84,8 @@ class Views(unittest.TestCase):
         self.assertNotIn("<script", page)
         self.assertGreater(page.count("&lt;script&gt;"), 9)
         row = Row(0, NOW, "2025-01-06", 7, 1, 1, "in", "2", "", HOSTILE, 0, 0)
-        found = Statement(1, [row], 2, Pence(0), Pence(0), Pence(0), True)
-        card = pages({2: HOSTILE}).card(HOSTILE, found, None, HOSTILE)
+        statement = Statement(1, [row], 2, Pence(0), Pence(0), Pence(0), True)
+        card = pages({2: HOSTILE}).card(HOSTILE, statement, None, HOSTILE)
         self.assertNotIn("<script", card)
         self.assertEqual(card.count("&lt;script&gt;"), 4)
 
@@ -117,10 +120,12 @@ class Views(unittest.TestCase):
         self.assertEqual(web_view.chart([0] * 96, [0] * 96).bars, [])
 
     def test_a_gate_is_remarked(self) -> None:
-        for *gate, said in ((0, 9, 0, True, []), (5, 25, 0, True, ["many refusals"]), (4, 4, 0, True, []),
-                            (5, 26, 0, True, []), (0, 0, 0, True, ["no touch today"]), (0, 0, 0, False, []),
-                            (0, 9, 299, True, []), (0, 9, 300, True, ["clock ahead"])):
-            self.assertEqual(web_view.remarks_of(*gate), said, gate)
+        rows: tuple[tuple[int, int, float, bool, list[str]], ...] = (
+            (0, 9, 0, True, []), (5, 25, 0, True, ["many refusals"]), (4, 4, 0, True, []), (5, 26, 0, True, []),
+            (0, 0, 0, True, ["no touch today"]), (0, 0, 0, False, []), (0, 9, 299, True, []),
+            (0, 9, 300, True, ["clock ahead"]))
+        for refused, touches, ahead, is_known, said in rows:
+            self.assertEqual(web_view.remarks_of(refused, touches, ahead, is_known), said, (refused, touches, ahead))
 
     def test_a_card_with_more_touches_than_a_page_has_names_the_command(self) -> None:
         row = Row(0, NOW, "2025-01-06", 7, 1, 1, "top-up", "", "100", "ToppedUp", 100, 100)
@@ -138,7 +143,7 @@ class Facts(unittest.TestCase):
         self.addCleanup(room.cleanup)
         self.folder = pathlib.Path(room.name)
 
-    def journal(self, moments):
+    def journal(self, moments: Sequence[int]) -> Journal:
         frames = [model.touch(model.TOP_UP, 7, number, 1, 1, moment) for number, moment in enumerate(moments)]
         (self.folder / "journal").write_bytes(model.journal_of(frames, 1000, 10, bytes(32)))
         journal = Journal(str(self.folder / "journal"))
@@ -194,9 +199,9 @@ class Facts(unittest.TestCase):
             self.assertIsNone(web_facts.reason_of("bovtrila"))
 
     def test_a_tables_zone_is_its_clock(self) -> None:
-        zone = web_history.zone_of(Tables([EXAMPLE]).schedule.first.table["zone"])
+        zone = web_history.zone_of(wire.table_of(EXAMPLE).table["zone"])
         for moment in range(1_700_000_000, 1_800_000_000, 999_983):
             ours, londons = (datetime.datetime.fromtimestamp(moment, each) for each in (zone, LONDON))
             self.assertEqual(f"{ours:%c %Z}", f"{londons:%c %Z}")
-        with self.assertRaises(web_history.Wrong):
+        with self.assertRaises(wire.Wrong):
             web_history.zone_of("no zone")

@@ -80,9 +80,10 @@ class Page(html.parser.HTMLParser):
 class Exporter:
     """A running exporter, with its page."""
 
-    def __init__(self, *words: object, every: str = "0.05", **options: object) -> None:
+    def __init__(self, *words: object, every: str = "0.05", env: dict[str, str] | None = None) -> None:
         command = [str(TOP / "scripts" / "exporter"), "--listen", "127.0.0.1:0", "--every", every, "--timeout", "0.5"]
-        self.process = subprocess.Popen([*command, *map(str, words)], stderr=subprocess.PIPE, text=True, **options)
+        self.process = subprocess.Popen([*command, *map(str, words)], stderr=subprocess.PIPE, text=True, env=env)
+        assert self.process.stderr is not None
         self.said = [self.process.stderr.readline()]
         while self.said[-1] and not self.said[-1].startswith("listening "):
             self.said.append(self.process.stderr.readline())
@@ -116,7 +117,8 @@ class Exporter:
     def end(self) -> str:
         if self.process.poll() is None:
             self.process.kill()
-        return self.process.communicate(timeout=TIME)[1]
+        said: str = self.process.communicate(timeout=TIME)[1]
+        return said
 
 
 class Town:
@@ -124,7 +126,8 @@ class Town:
 
     def __init__(self, begin: int, until: int, cards: int = 40, seed: int = 7) -> None:
         self.begin, self.until, self.random = begin, until, random.Random(seed)
-        self.cards, self.numbers, self.touches = cards, dict.fromkeys(range(1, 8), 0), []
+        self.cards, self.numbers = cards, dict.fromkeys(range(1, 8), 0)
+        self.touches: list[tuple[int, ...]] = []
         self.station = model.Station(wire.table_of(EXAMPLE), cards)
         for card in range(1, cards + 1):
             self.touches.append((begin - 4000 + card, 7, model.ISSUE, card))
@@ -144,7 +147,7 @@ class Town:
             self.touches.append((out, self.random.choice((5, 5, 6)), model.LEAVE, card, finish))
 
     def frame(self, moment: int, gate: int, kind: int, card: int, *more: int) -> bytes:
-        """The request of a touch: a broken gate's has no such station, and a fast gate's a later moment."""
+        """The request of a touch: that of a broken gate names no station, and that of a fast gate has a later moment."""
         self.numbers[gate] += 1
         more = (NOWHERE,) if gate == BROKEN and kind == model.ENTER else more
         moment += AHEAD if gate == FAST else 0
