@@ -55,7 +55,7 @@ class Browser(page_stand_ins.Running):
             content = file.read_bytes()
             self.assertEqual((content[:16], struct.unpack(">II", content[16:24])), (PNG, (width, 1400)))
             # A page without its style, or an error, is a picture of few colours that takes few bytes.
-            self.assertGreater(len(content), 20_000, name)
+            self.assertGreater(len(content), 10_000, name)
 
     def test_the_page_is_printed(self) -> None:
         for path in ("/", "/card?number=7"):

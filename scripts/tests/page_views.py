@@ -4,6 +4,7 @@ import datetime
 import pathlib
 import re
 import socket
+import subprocess
 import tempfile
 import unittest
 import unittest.mock
@@ -133,6 +134,16 @@ class Views(unittest.TestCase):
         page = pages().card("1", found, None, "bovtrila history --card 1")
         self.assertIn("The newest 3 touches are here. This command prints all: <code>bovtrila history", page)
         self.assertEqual(paged.Page(page).texts["balance"], "£1.00")
+
+
+class Picture(unittest.TestCase):
+    """The picture of the page in the documents."""
+
+    def test_it_is_that_of_todays_page_and_is_shown(self) -> None:
+        done = subprocess.run([TOP / "scripts" / "dev" / "page-picture", "--check"], capture_output=True, text=True)
+        self.assertEqual((done.returncode, done.stderr), (0, ""))
+        self.assertIn("](pictures/page.png)\n", (TOP / "docs" / "OPERATING.md").read_text())
+        self.assertLess((TOP / "docs" / "pictures" / "page.png").stat().st_size, 50_000)
 
 
 class Facts(unittest.TestCase):

@@ -1,4 +1,5 @@
-"""The pictures of docs/pictures/: each is the one of its text, and a page shows it with the description of that text."""
+"""The pictures of docs/pictures/: each is the one of its text, and a page shows it with the description of that text. The
+picture that scripts/dev/page-picture makes has no text: scripts/tests/watched-pages checks it."""
 import pathlib
 import re
 import shutil
@@ -27,7 +28,8 @@ class Pictures(unittest.TestCase):
         found: dict[pathlib.Path, set[str]] = {}
         for page in (TOP / "README.md", *(TOP / "docs").glob("*.md")):
             for match in SHOWN.finditer(page.read_text()):
-                found.setdefault((page.parent / match["path"]).resolve(), set()).add(match["alt"])
+                if match["path"].endswith(".svg"):
+                    found.setdefault((page.parent / match["path"]).resolve(), set()).add(match["alt"])
         told = {file.with_suffix(".svg"): {re.findall(r"^alt: (.*)$", file.read_text(), re.M)[0]} for file in FOLDER.glob("*.txt")}
         self.assertEqual(found, told)
 
