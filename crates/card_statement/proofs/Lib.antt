@@ -1,0 +1,4 @@
+mod DayLists
+mod NamedCapLemmas
+mod StatementLemmas
+mod Examples

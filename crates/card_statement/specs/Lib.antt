@@ -1,0 +1,5 @@
+pub mod Incomplete
+pub mod NamedCap
+pub mod Day
+pub mod Statement
+pub mod Laws
