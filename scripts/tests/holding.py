@@ -1,6 +1,9 @@
 """Delays a call of a program until a test lets it continue, so that the test can do something meanwhile."""
 import os
+import pathlib
+import subprocess
 import time
+from typing import Any
 
 import harness
 
@@ -33,13 +36,13 @@ long read(int file, void *into, unsigned long size) {
 class Held:
     """A call that is held up, in a folder of the test's own."""
 
-    def __init__(self, folder, **which):
+    def __init__(self, folder: pathlib.Path, **which: str) -> None:
         """The call is the lock's with HOLD_LOCK="1", or a read from the byte HOLD_READ on."""
         self.held, self.go = folder / "held", folder / "go"
         library = harness.library(folder, "hold", LIBRARY)
         self.env = dict(os.environ, LD_PRELOAD=str(library), HELD=str(self.held), GO=str(self.go), **which)
 
-    def wait(self, process):
+    def wait(self, process: subprocess.Popen[Any]) -> None:
         """Waits until the process is at that call."""
         limit = time.monotonic() + harness.TIME
         while not self.held.exists():
@@ -47,6 +50,6 @@ class Held:
                 raise AssertionError(f"the call wasn't made; status {process.returncode}")
             time.sleep(0.01)
 
-    def let_go(self):
+    def let_go(self) -> None:
         """Lets the call go on, and each later one at once."""
         self.go.touch()

@@ -5,6 +5,7 @@ import shutil
 import subprocess
 import tempfile
 import unittest
+from collections.abc import Iterator
 
 import installed
 from harness import TOP
@@ -16,20 +17,22 @@ PAGES = "usr/share/doc/bovtrila/"
 class Links(html.parser.HTMLParser):
     """What a page links to, and what can be linked to in it."""
 
-    def __init__(self, path):
+    def __init__(self, path: pathlib.Path) -> None:
         super().__init__()
-        self.found, self.anchors, self.alone = [], set(), []
+        self.found: list[str] = []
+        self.anchors: set[str | None] = set()
+        self.alone: list[str | None] = []
         self.feed(path.read_text())
 
-    def handle_starttag(self, tag, attributes):
+    def handle_starttag(self, tag: str, attributes: list[tuple[str, str | None]]) -> None:
         of = dict(attributes)
         self.anchors.add(of.get("id"))
-        self.found += [of[name] for name in ("href", "src") if name in of]
+        self.found += [of[name] or "" for name in ("href", "src") if name in of]
         if tag == "img" and not of.get("alt"):
             self.alone.append(of["src"])
 
 
-def faults(folder):
+def faults(folder: pathlib.Path) -> Iterator[str]:
     """The links of a folder's pages that lead nowhere, and pictures without a description."""
     read = {path: Links(path) for path in folder.glob("*.html")}
     for path, links in read.items():
@@ -44,23 +47,27 @@ def faults(folder):
                 yield f"{path.name}: {link}: no such heading"
 
 
-def laid_out(tree):
+def laid_out(tree: pathlib.Path) -> pathlib.Path:
     """Puts the pages and pictures of the package into a tree, as scripts/package does: their folder."""
     for file, place in installed.rows():
         if place.startswith(PAGES):
             to, change = tree / place, installed.change_of(file)
             to.parent.mkdir(parents=True, exist_ok=True)
-            to.write_text(change(file.read_text())) if change else shutil.copy(file, to)
+            to.write_text(change(file.read_text(), installed.STATION)) if change else shutil.copy(file, to)
     return tree / PAGES
 
 
-def make(folder):
+def make(folder: pathlib.Path) -> subprocess.CompletedProcess[str]:
     return subprocess.run([SCRIPT, folder, folder / "html"], capture_output=True, text=True)
 
 
 class Html(unittest.TestCase):
+    room: tempfile.TemporaryDirectory[str]
+    pages: pathlib.Path
+    made: subprocess.CompletedProcess[str]
+
     @classmethod
-    def setUpClass(cls):
+    def setUpClass(cls) -> None:
         if not shutil.which("pandoc"):
             raise unittest.SkipTest("pages in HTML are made by pandoc: not installed")
         cls.room = tempfile.TemporaryDirectory(prefix="html-pages-")
@@ -68,12 +75,12 @@ class Html(unittest.TestCase):
         cls.pages = laid_out(pathlib.Path(cls.room.name))
         cls.made = make(cls.pages)
 
-    def test_each_page_and_the_index_are_made(self):
+    def test_each_page_and_the_index_are_made(self) -> None:
         self.assertEqual((self.made.returncode, self.made.stdout + self.made.stderr), (0, ""))
         self.assertEqual({path.name for path in (self.pages / "html").iterdir()},
                          {"index.html", "style.css", *(path.with_suffix(".html").name for path in self.pages.glob("*.md"))})
 
-    def test_each_link_leads_somewhere(self):
+    def test_each_link_leads_somewhere(self) -> None:
         self.assertEqual(list(faults(self.pages / "html")), [])
         links = {path.name: Links(path).found for path in (self.pages / "html").glob("*.html")}
         # The index names all pages, a citation is a link to its section, and pages show their pictures.
@@ -82,9 +89,9 @@ class Html(unittest.TestCase):
         self.assertIn("../pictures/lost-answer.svg", links["START.html"])
         self.assertGreater(links["OPERATING.html"].count("#new-fares"), 1)
 
-    def test_what_leads_nowhere_is_seen(self):
-        with tempfile.TemporaryDirectory() as folder:
-            folder = pathlib.Path(folder)
+    def test_what_leads_nowhere_is_seen(self) -> None:
+        with tempfile.TemporaryDirectory() as name:
+            folder = pathlib.Path(name)
             (folder / "ONE.html").write_text('<h1 id="one"><a href="#two"></a><a href="TWO.html"></a><img src="ONE.html" alt="">')
             self.assertEqual(set(faults(folder)), {"ONE.html: #two: no such heading", "ONE.html: TWO.html isn't there",
                                                    "ONE.html: ONE.html has no description"})

@@ -8,16 +8,22 @@ import pathlib
 import sys
 import tempfile
 import tomllib
+from collections.abc import Callable, Iterable, Iterator
+from typing import Any, TypeAlias
 
 sys.path.append(f"{sys.path[0]}/../dev")
 
 import fact_keys
 import harness
+from fact_keys import Key
+
+# A fare table as TOML has it, or a row of one.
+Table: TypeAlias = dict[str, Any]
 
 KEYS = fact_keys.keys(harness.TOP)
 
 
-def example():
+def example() -> Table:
     """The example table with every optional key, and a single fare that no station needs, so that it may go."""
     table = tomllib.loads(harness.EXAMPLE.read_text())
     table["pair"][0]["minutes"] = 30
@@ -25,7 +31,7 @@ def example():
     return table
 
 
-def text_of(table):
+def text_of(table: Table) -> str:
     """A table as TOML: texts, numbers, truth values and lists of them are written as in JSON."""
     lists = {key: rows for key, rows in table.items() if isinstance(rows, list) and rows and isinstance(rows[0], dict)}
     lines = [f"{key} = {json.dumps(value)}" for key, value in table.items() if key not in lists]
@@ -35,21 +41,23 @@ def text_of(table):
     return "\n".join([*lines, ""])
 
 
-def other_values(key, value):
+def other_values(key: Key, value: Any) -> list[Any]:
     """Other values that a key may have instead of this one."""
-    return {"Whole": lambda: [value + 1, value - 1], "Truth": lambda: [not value], "Text": lambda: [f"{value}/3"],
+    others: dict[str, Callable[[], list[Any]]] = {
+            "Whole": lambda: [value + 1, value - 1], "Truth": lambda: [not value], "Text": lambda: [f"{value}/3"],
             "Name": lambda: [f"{value} Road"], "Kind": lambda: [{"anytime": "off-peak", "off-peak": "anytime"}[value]],
             "Zones": lambda: [[1], [2], [3], [1, 2], [2, 3]],
-            "Rows": lambda: [value[:at] + value[at + 1:] for at in range(len(value))]}[key.shape]()
+            "Rows": lambda: [value[:at] + value[at + 1:] for at in range(len(value))]}
+    return others[key.shape]()
 
 
-def holders(key, table):
+def holders(key: Key, table: Table) -> list[Table]:
     """What has the key: the table itself, or the rows of the key's list that have it."""
     held = table[key.text.partition(".")[0]] if "." in key.text else [table]
     return [row for row in held if key.key() in row]
 
 
-def changed(key):
+def changed(key: Key) -> Iterator[Table]:
     """Tables that differ from the example in this key's value alone; some of them may be refused."""
     for place, held in reversed(list(enumerate(holders(key, example())))):
         for value in other_values(key, held[key.key()]):
@@ -59,7 +67,7 @@ def changed(key):
                 yield table
 
 
-def without(key, table):
+def without(key: Key, table: Table) -> Table:
     """The table without this key."""
     table = copy.deepcopy(table)
     for row in holders(key, table):
@@ -70,12 +78,12 @@ def without(key, table):
 class KeyChanges(harness.ProgramTest):
     """A table that differs in one key."""
 
-    def setUp(self):
+    def setUp(self) -> None:
         folder = tempfile.TemporaryDirectory()
         self.addCleanup(folder.cleanup)
         self.folder = pathlib.Path(folder.name)
 
-    def compared(self, old, new):
+    def compared(self, old: Table, new: Table) -> list[str]:
         """What the program prints of the changes from one table to another; nothing, if it refuses one of them."""
         for name, table in (("old", old), ("new", new)):
             (self.folder / name).write_text(text_of(table))
@@ -83,7 +91,7 @@ class KeyChanges(harness.ProgramTest):
         self.assertTrue(out or err.startswith("fault table "), err)
         return out.decode().splitlines()[:-1]
 
-    def unreported(self, compared, keys=KEYS):
+    def unreported(self, compared: Callable[[Table, Table], list[str]], keys: Iterable[Key] = KEYS) -> list[str]:
         """The keys of which a change, or the absence, isn't reported."""
         found = []
         for key in keys:
@@ -94,11 +102,13 @@ class KeyChanges(harness.ProgramTest):
                 found.append(key.text)
         return found
 
-    def test_a_change_of_each_key_is_reported(self):
+    def test_a_change_of_each_key_is_reported(self) -> None:
         self.assertEqual(self.unreported(self.compared), [])
 
-    def test_a_key_that_is_ignored_is_noticed(self):
+    def test_a_key_that_is_ignored_is_noticed(self) -> None:
         for key in (one for one in KEYS if not one.is_required):
             with self.subTest(key.text):
-                found = self.unreported(lambda old, new, key=key: self.compared(without(key, old), without(key, new)), [key])
+                def compared(old: Table, new: Table, key: Key = key) -> list[str]:
+                    return self.compared(without(key, old), without(key, new))
+                found = self.unreported(compared, [key])
                 self.assertEqual(found, [key.text])

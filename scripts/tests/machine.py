@@ -10,6 +10,7 @@ import shutil
 import subprocess
 import tempfile
 import time
+from typing import Any
 
 NEEDED = ("apt-get", "ip", "nsenter", "setpriv", "systemd-analyze", "unshare")
 GROUPS = pathlib.Path("/sys/fs/cgroup")
@@ -72,7 +73,7 @@ class NotHere(Exception):
     """This machine can't have one. The text says why."""
 
 
-def lacking():
+def lacking() -> str | None:
     """Why this machine can't have one, or nothing."""
     if os.geteuid():
         return "a new machine is made by root"
@@ -87,13 +88,13 @@ def lacking():
 class Machine:
     """A new machine with a folder of packages."""
 
-    def __init__(self, packages):
+    def __init__(self, packages: pathlib.Path) -> None:
         self.room = pathlib.Path(tempfile.mkdtemp(prefix="new-machine-"))
         self.groups = [folder / self.room.name for folder in self.hierarchies()]
         for group in self.groups:
             group.mkdir()
         joins = "".join(f'echo $$ >"{group}/cgroup.procs"\n' for group in self.groups)
-        words = ["unshare", "--mount", "--pid", "--fork", "--uts", "--ipc", "--cgroup", "--net", "--kill-child",
+        words: list[str | pathlib.Path] = ["unshare", "--mount", "--pid", "--fork", "--uts", "--ipc", "--cgroup", "--net", "--kill-child",
                  "bash", "-c", BOOT, "boot", self.room, packages]
         # It ends with whoever made it, however that one ends.
         words = ["setpriv", "--pdeathsig", "KILL", "bash", "-c", f'{joins}exec "$@"', "join", *words]
@@ -106,23 +107,24 @@ class Machine:
             raise
 
     @staticmethod
-    def hierarchies():
+    def hierarchies() -> list[pathlib.Path]:
         """Where groups of processes are that the machine has for its own."""
         if (GROUPS / "cgroup.procs").exists():
             return [GROUPS]
         return [folder for folder in (GROUPS / "systemd", GROUPS / "unified") if folder.is_dir()]
 
-    def wait_for_systemd(self):
+    def wait_for_systemd(self) -> None:
         begun = time.monotonic()
         while self.process.poll() is None and time.monotonic() < begun + TIME:
-            self.first = self.first_process()
+            self.first = self.first_process() or ""
             if self.first and self.run("systemctl", "is-active", "new-machine.target").stdout == "active\n":
                 return
             time.sleep(0.05)
         self.process.kill()
+        assert self.process.stderr, "a pipe"
         raise NotHere(f"no systemd begins in namespaces here: {self.process.stderr.read().strip()[-200:]}")
 
-    def first_process(self):
+    def first_process(self) -> str | None:
         """The number of the machine's first process here, once that is systemd."""
         parent = self.process.pid
         try:
@@ -133,7 +135,7 @@ class Machine:
             pass  # it has ended meanwhile
         return None
 
-    def run(self, *words, **options):
+    def run(self, *words: object, **options: Any) -> subprocess.CompletedProcess[str]:
         """Runs a command of the machine, as root: what has ended, with its outputs."""
         enter = ["nsenter", "--target", self.first, "--mount", "--pid", "--uts", "--ipc", "--cgroup", "--net", "--root",
                  "--wd"]
@@ -142,28 +144,29 @@ class Machine:
         return subprocess.run([*enter, *map(str, words)], env=env, stdin=subprocess.DEVNULL, capture_output=True,
                               text=True, timeout=TIME, **options)
 
-    def path(self, name):
+    def path(self, name: str) -> pathlib.Path:
         """A file of the machine, as it is seen from here."""
         return pathlib.Path(f"/proc/{self.first}/root") / name.lstrip("/")
 
-    def changed(self):
+    def changed(self) -> list[str]:
         """The files that aren't those of this machine: what was made, changed or taken away there."""
-        words = ["nsenter", "--target", str(self.process.pid), "--mount", "find", self.room / "upper", "!", "-type",
+        words: list[str | pathlib.Path] = ["nsenter", "--target", str(self.process.pid), "--mount", "find", self.room / "upper", "!", "-type",
                  "d", "-printf", "/%P\n"]
         return subprocess.run(words, check=True, capture_output=True, text=True).stdout.splitlines()
 
-    def end(self):
+    def end(self) -> None:
         """Ends all that runs there, and takes away what the machine was made of."""
         self.process.kill()
         self.process.wait()
-        self.process.stderr.close()
+        if self.process.stderr:
+            self.process.stderr.close()
         for group in self.groups:
             for folder in [*sorted(group.rglob("*/"), reverse=True), group]:
                 remove(folder)
         self.room.rmdir()
 
 
-def remove(group):
+def remove(group: pathlib.Path) -> None:
     """Removes a group of processes, once the last of them has ended."""
     begun = time.monotonic()
     while True:

@@ -2,14 +2,16 @@
 that weren't loaded, journals that were loaded twice, and rows that were changed. For scripts/tests/network."""
 import contextlib
 import os
+import pathlib
 import signal
 import subprocess
+from collections.abc import Iterable
 
 import model
 import town
 from harness import EXAMPLE, PROGRAM
-from network_base import (NETWORK, TABLES, TIME, BaseTest, OnPostgres, OnSqlite, call, database, driven, load,
-                          network, room, words_of)
+from network_base import (NETWORK, TABLES, TIME, BaseTest, OnPostgres, OnSqlite, OverBoth, call, database, driven,
+                          load, network, room, words_of)
 
 # Monday 2025-01-06 at 08:00 UTC. From station 1 to station 2 the example table charges 900 at the touch in, and gives 550
 # back at the touch out (docs/NETWORK.md, "From two servers to the first query").
@@ -17,7 +19,7 @@ MONDAY = 1736150400
 TABLE = model.Table(EXAMPLE.read_text())
 
 
-def travel(gate, first, card, moment):
+def travel(gate: int, first: int, card: int, moment: int) -> list[bytes]:
     """An issue, a top-up of 2000 pence and a journey, after which the card holds 1650."""
     return [model.touch(model.ISSUE, gate, first, card, moment),
             model.touch(model.TOP_UP, gate, first + 1, card, 2000, moment + 60),
@@ -25,24 +27,24 @@ def travel(gate, first, card, moment):
             model.touch(model.LEAVE, gate, first + 3, card, 2, moment + 900)]
 
 
-def journal_of(path, frames):
+def journal_of(path: pathlib.Path, frames: Iterable[bytes]) -> pathlib.Path:
     """A journal of these touches."""
     path.write_bytes(model.journal_of(frames, 10_000, 20, TABLE.digest))
     return path
 
 
-def loaded(server, journal, base, *words):
+def loaded(server: str, journal: pathlib.Path, base: str, *words: object) -> subprocess.CompletedProcess[str]:
     return call("load", "--station", server, "--journal", journal, "--database", base, "--program", PROGRAM, *words, *TABLES)
 
 
-class Answers:
+class Answers(OverBoth):
     """Over both databases."""
 
-    def asked_of(self, name, base, *words):
+    def asked_of(self, name: str, base: str, *words: object) -> tuple[int, list[tuple[str, ...]]]:
         done = call("query", name, "--database", base, *words)
         return done.returncode, [tuple(line.split(",")) for line in done.stdout.splitlines()[1:]]
 
-    def test_a_server_that_was_not_loaded_is_in_the_answer(self):
+    def test_a_server_that_was_not_loaded_is_in_the_answer(self) -> None:
         base, home = self.fresh("fresh"), room("network-fresh-")
         self.assertEqual(loaded("Alder", journal_of(home / "alder", travel(7, 1, 1, MONDAY)), base).returncode, 0)
         day_before = travel(7, 1, 1, MONDAY - town.DAY)
@@ -53,7 +55,7 @@ class Answers:
                               (("Birch", "Birch", "birch", "2025-01-05T08:15:00Z"), "no touches")]))
         self.assertEqual(self.asked_of("freshness", base, "--from", "2025-01-05", "--to", "2025-01-06")[0], 0)
 
-    def test_a_journal_is_refused_under_another_name(self):
+    def test_a_journal_is_refused_under_another_name(self) -> None:
         base, home = self.fresh("twice"), room("network-twice-")
         frames = [frame for card in range(1, 11) for frame in travel(7, 4 * card - 3, card, MONDAY + 1000 * card)]
         self.assertEqual(loaded("Alder", journal_of(home / "alder", frames[:30]), base).returncode, 0)
@@ -69,7 +71,7 @@ class Answers:
         other = journal_of(home / "other", travel(7, 1, 1, MONDAY + 5))
         self.assertEqual(loaded("Birch", other, base).returncode, 0)
 
-    def test_a_change_of_balances_and_top_ups_is_found_by_comparing(self):
+    def test_a_change_of_balances_and_top_ups_is_found_by_comparing(self) -> None:
         base, home = self.fresh("lifted"), room("network-lifted-")
         frames = travel(7, 1, 1, MONDAY) + travel(7, 5, 2, MONDAY + 2000)
         journal = journal_of(home / "alder", frames)
@@ -88,24 +90,24 @@ class Answers:
                       "2000,2000'\n", done.stdout)
         self.assertTrue(done.stdout.endswith("Alder alder: 8 touches compared, 3 differences\n"))
 
-    def test_an_audit_compares_the_database(self):
+    def test_an_audit_compares_the_database(self) -> None:
         base, home = self.fresh("audited"), room("network-audited-")
         journals = [journal_of(home / name, travel(7, 1, 1, moment)) for name, moment in (("alder", MONDAY), ("birch", 60))]
         loaded("Alder", journals[0], base)
-        words = ["audit", *journals, *TABLES, "--program", PROGRAM, "--report", home / "report", "--database", base]
-        done = call(*words)
+        words = [*journals, *TABLES, "--program", PROGRAM, "--report", home / "report", "--database", base]
+        done = call("audit", *words)
         self.assertEqual((done.returncode, [line.split(",")[0] for line in done.stdout.splitlines()[:2]]),
                          (1, ["alder: sound", "birch: the database has none of its touches"]), done.stderr)
         with contextlib.closing(database.connect(base)) as opened:
             opened.begin()
             opened.execute("UPDATE touches SET balance = balance + 1 WHERE place = 3")
             opened.commit()
-        done = call(*words)
+        done = call("audit", *words)
         self.assertEqual(done.returncode, 1)
         self.assertTrue(done.stdout.startswith("alder: place 3: the database has '1,3,2025-01-06T08:15:00Z,2025-01-06,7,4,1,"
                                                "out,2,,Exited,550,1651', the journal '1,3,"), done.stdout)
 
-    def test_missing_rows_and_changed_cards_are_found_by_comparing(self):
+    def test_missing_rows_and_changed_cards_are_found_by_comparing(self) -> None:
         for change, said in (("DELETE FROM touches WHERE place = 3", "place 3: the database has nothing, the journal '1,3,"),
                              ("UPDATE balances SET balance = 1651, paid_in = 2001", "card 1: the database has '1,outside,"
                               "1651,2001,350', the journal '1,outside,1650,2000,350'"),
@@ -123,7 +125,7 @@ class Answers:
                 self.assertIn(f"Alder alder: {said}", done.stdout)
                 self.assertTrue(done.stdout.endswith(": 4 touches compared, 1 differences\n"), done.stdout)
 
-    def test_transferred_balances_are_not_paid_in(self):
+    def test_transferred_balances_are_not_paid_in(self) -> None:
         base, home = self.fresh("transfers"), room("network-transfers-")
         self.assertEqual(loaded("Alder", journal_of(home / "old", travel(7, 1, 1, MONDAY)), base, "--closed").returncode, 0)
         later = MONDAY + town.DAY
@@ -141,7 +143,7 @@ class Answers:
         self.assertEqual(self.asked_of("transfers", base),
                          (0, [("Alder", "Alder", "old", "new", "1650", "1650", "0")]))
 
-    def test_transfers_of_another_gate_are_named(self):
+    def test_transfers_of_another_gate_are_named(self) -> None:
         base, home = self.fresh("gate"), room("network-gate-")
         new = journal_of(home / "new", [model.touch(model.ISSUE, 900, 1, 1, MONDAY),
                                         model.touch(model.TOP_UP, 900, 2, 1, 1650, MONDAY)])
@@ -151,14 +153,14 @@ class Answers:
         self.assertEqual(done.returncode, 1)
         self.assertIn("its transfers were loaded as those of gate 900", done.stderr)
 
-    def test_a_killed_load_leaves_no_file(self):
+    def test_a_killed_load_leaves_no_file(self) -> None:
         base, left = self.fresh("left"), room("network-left-")
         for where in ("copy", "commit"):
             ended = driven(where, "kill", words_of("birch-1", "friday", base), env={**os.environ, "TMPDIR": str(left)})
             ended.communicate(timeout=TIME)
             self.assertEqual((ended.returncode, [*left.iterdir()]), (-signal.SIGKILL, []))
 
-    def test_a_reader_that_has_gone_ends_a_command(self):
+    def test_a_reader_that_has_gone_ends_a_command(self) -> None:
         base, home = self.fresh("gone"), room("network-gone-")
         loaded("Alder", journal_of(home / "alder", travel(7, 1, 1, MONDAY)), base)
         for words in (["query", "holdings", "--database", base], ["query", "--list"], ["query", "--help"],
@@ -170,7 +172,7 @@ class Answers:
                 os.close(write)
                 self.assertEqual((done.returncode, done.stderr), (141, b""))
 
-    def test_a_reader_may_go_in_the_middle_of_an_answer(self):
+    def test_a_reader_may_go_in_the_middle_of_an_answer(self) -> None:
         base, home = self.fresh("middle"), room("network-middle-")
         loaded("Alder", journal_of(home / "alder", travel(7, 1, 1, MONDAY)), base)
         with contextlib.closing(database.connect(base)) as opened:
@@ -182,6 +184,7 @@ class Answers:
             opened.commit()
         asked = subprocess.Popen([NETWORK / "query", "holdings", "--database", base], stdout=subprocess.PIPE,
                                  stderr=subprocess.PIPE)
+        assert asked.stdout and asked.stderr, "pipes"
         self.assertEqual(asked.stdout.readline(), b"card,servers,inside,balance,transferred,paid_in,charged\r\n")
         asked.stdout.close()
         self.assertEqual((asked.stderr.read(), asked.wait(TIME)), (b"", 141))
@@ -195,11 +198,11 @@ class SqliteAnswers(Answers, OnSqlite, BaseTest):
 class PostgresAnswers(Answers, OnPostgres, BaseTest):
     """In PostgreSQL."""
 
-    def partitions(self, base):
+    def partitions(self, base: str) -> list[str]:
         return [name for name, in self.asked(base, "SELECT relid::text FROM pg_partition_tree('touches') WHERE isleaf"
                                                    " ORDER BY 1")]
 
-    def test_what_cards_hold_stays_when_a_month_is_detached(self):
+    def test_what_cards_hold_stays_when_a_month_is_detached(self) -> None:
         base = self.fresh("detached")
         self.assertEqual(load("alder-1", "end", base).returncode, 0)
         held = self.asked(base, "SELECT card, state, balance, paid_in, charged FROM held ORDER BY card")
@@ -211,7 +214,7 @@ class PostgresAnswers(Answers, OnPostgres, BaseTest):
             opened.commit()
         self.assertEqual(self.asked(base, "SELECT card, state, balance, paid_in, charged FROM held ORDER BY card"), wanted)
 
-    def test_a_gate_with_random_moments_makes_no_partition_for_each(self):
+    def test_a_gate_with_random_moments_makes_no_partition_for_each(self) -> None:
         base, home = self.fresh("random"), room("network-random-")
         frames = travel(7, 1, 1, MONDAY) + [model.touch(model.ISSUE, 8, number, 3, 86_400 * 30 * number)
                                             for number in range(1, 400)]

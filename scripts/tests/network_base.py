@@ -9,6 +9,8 @@ import subprocess
 import sys
 import tempfile
 import unittest
+from collections.abc import Iterable
+from typing import TYPE_CHECKING, Any, ClassVar
 
 import harness
 import postgres
@@ -18,15 +20,15 @@ from harness import EXAMPLE, PROGRAM, REVISED, TOP
 
 sys.path.append(str(TOP / "network"))
 
-import accounts  # noqa: F401 (the tests take these two from here)
-import database
-import gates  # noqa: F401
-import queries
+import accounts as accounts  # noqa: F401 (the tests take these modules from here)
+import database as database
+import gates as gates  # noqa: F401
+import queries as queries  # noqa: F401
 
 NETWORK = TOP / "network"
 # How many seconds a command may take: some start Dask's processes, beside other tests.
 TIME = 300
-TABLES = ["--table", EXAMPLE, REVISED]
+TABLES: list[str | pathlib.Path] = ["--table", EXAMPLE, REVISED]
 PYTHON = "/usr/bin/python3"
 DAYS = (town.FRIDAY, town.SATURDAY)
 AT = town.THURSDAY + 4 * town.DAY
@@ -82,7 +84,7 @@ print("steps", next(taken) - 1)
 """.format(network=str(NETWORK))
 
 
-def room(prefix):
+def room(prefix: str) -> pathlib.Path:
     """A folder that goes with the tests."""
     memory = "/dev/shm" if os.access("/dev/shm", os.W_OK) else None
     folder = pathlib.Path(tempfile.mkdtemp(prefix=prefix, dir=memory))
@@ -91,17 +93,18 @@ def room(prefix):
 
 
 @functools.cache
-def cluster():
+def cluster() -> postgres.Cluster:
     made = postgres.Cluster()
     atexit.register(made.stop)
     return made
 
 
 @functools.cache
-def network():
+def network() -> tuple[town.Town, pathlib.Path, list[tuple[str, str, str]]]:
     """The six servers' journals, as they stand after Friday and at the end, with what the servers answered otherwise than
     the model."""
-    made, folder, others = town.Town(), room("network-"), []
+    made, folder = town.Town(), room("network-")
+    others: list[tuple[str, str, str]] = []
     for name, server in made.servers.items():
         home = folder / name
         home.mkdir()
@@ -121,14 +124,14 @@ def network():
     return made, folder, others
 
 
-def flip(journal, place=30):
+def flip(journal: pathlib.Path, place: int = 30) -> None:
     """Flips the lowest bit of the moment of a touch."""
     content = bytearray(journal.read_bytes())
     content[64 + 64 * place + 16] ^= 1
     journal.write_bytes(content)
 
 
-def words_of(name, stage, base, *more):
+def words_of(name: str, stage: str, base: str, *more: object) -> list[str]:
     """The words of network/load for a server's journal."""
     first = 1 + town.CARDS * list(town.SERVERS).index(name)
     journal = network()[1] / name / stage / "station.journal"
@@ -136,22 +139,22 @@ def words_of(name, stage, base, *more):
                                    journal, "--database", base, "--program", PROGRAM, *more, *TABLES)]
 
 
-def call(script, *words, **options):
+def call(script: str, *words: object, **options: Any) -> subprocess.CompletedProcess[str]:
     """Runs a script of network/ to its end."""
     return subprocess.run([NETWORK / script, *map(str, words)], capture_output=True, text=True, timeout=TIME, **options)
 
 
-def load(name, stage, base, *more):
+def load(name: str, stage: str, base: str, *more: object) -> subprocess.CompletedProcess[str]:
     return call("load", *words_of(name, stage, base, *more))
 
 
-def driven(where, what, words, **options):
+def driven(where: str | int, what: str, words: Iterable[str], **options: Any) -> subprocess.Popen[str]:
     """network/load with a kill or a hold at a step."""
     return subprocess.Popen([PYTHON, "-c", DRIVER, str(where), what, *words], stdin=subprocess.PIPE,
                             stdout=subprocess.PIPE, stderr=subprocess.PIPE, text=True, **options)
 
 
-def everything(name):
+def everything(name: str) -> dict[str, list[tuple[Any, ...]]]:
     """All that a database holds, but for the times of loads: the rows of each table, by its name. Partitions count, and
     tables without rows don't: a load makes them before it begins."""
     with contextlib.closing(database.connect(name)) as base:
@@ -172,13 +175,14 @@ class OnPostgres:
     """The database of a test, in PostgreSQL."""
 
     @classmethod
-    def ready(cls):
-        why = postgres.why_not() or (database.psycopg2 is None and "psycopg2 isn't here (apt-get install python3-psycopg2)")
+    def ready(cls) -> None:
+        missing = "psycopg2 isn't here (apt-get install python3-psycopg2)"
+        why = postgres.why_not() or (missing if database.psycopg2 is None else None)
         if why:
             raise unittest.SkipTest(why)
 
     @staticmethod
-    def fresh(name):
+    def fresh(name: str) -> str:
         return cluster().database(name)
 
 
@@ -186,11 +190,11 @@ class OnSqlite:
     """The database of a test, in SQLite."""
 
     @classmethod
-    def ready(cls):
+    def ready(cls) -> None:
         pass
 
     @staticmethod
-    def fresh(name):
+    def fresh(name: str) -> str:
         return str(room("network-sqlite-") / f"{name}.db")
 
 
@@ -198,11 +202,21 @@ class BaseTest(harness.ProgramTest):
     """Tests over one of the two databases."""
 
     @classmethod
-    def setUpClass(cls):
+    def ready(cls) -> None:
+        """Skips the tests where the database isn't here."""
+        raise NotImplementedError
+
+    @staticmethod
+    def fresh(name: str) -> str:
+        """A new database."""
+        raise NotImplementedError
+
+    @classmethod
+    def setUpClass(cls) -> None:
         super().setUpClass()
         cls.ready()
 
-    def asked(self, base, text, **values):
+    def asked(self, base: str, text: str, **values: Any) -> list[tuple[Any, ...]]:
         with contextlib.closing(database.connect(base)) as opened:
             return opened.table(text, **values)[1]
 
@@ -210,7 +224,19 @@ class BaseTest(harness.ProgramTest):
 class DatabaseTest(BaseTest):
     """The same, over the journals of the six servers."""
 
+    town: ClassVar[town.Town]
+    folder: ClassVar[pathlib.Path]
+    others: ClassVar[list[tuple[str, str, str]]]
+
     @classmethod
-    def setUpClass(cls):
+    def setUpClass(cls) -> None:
         super().setUpClass()
         cls.town, cls.folder, cls.others = network()
+
+
+# Of the classes with tests over both databases only a type checker sees that they are tests.
+if TYPE_CHECKING:
+    OverBoth = BaseTest
+    OverBothWithTown = DatabaseTest
+else:
+    OverBoth = OverBothWithTown = object

@@ -6,6 +6,8 @@ import re
 import shutil
 import subprocess
 import tempfile
+from collections.abc import Iterable
+from typing import Any
 
 import database
 import harness
@@ -39,7 +41,7 @@ class OfFleet(harness.ProgramTest):
 
     maxDiff = None
 
-    def setUp(self):
+    def setUp(self) -> None:
         room = tempfile.TemporaryDirectory(prefix="network-daily-")
         self.addCleanup(room.cleanup)
         self.room = pathlib.Path(room.name)
@@ -51,21 +53,21 @@ class OfFleet(harness.ProgramTest):
         self.put("alder", "station.journal", FOUR)
         self.put("birch", "station.journal", [model.touch(model.ISSUE, 9, 1, 3, MOMENT)])
 
-    def put(self, server, name, frames, moment=MOMENT):
+    def put(self, server: str, name: str, frames: Iterable[bytes], moment: int = MOMENT) -> pathlib.Path:
         path = self.folder / "copies" / server / name
         path.parent.mkdir(parents=True, exist_ok=True)
         path.write_bytes(model.journal_of(frames, 1000, 10, model.Table(EXAMPLE.read_text()).digest, model.VERSION))
         os.utime(path, (moment, moment))
         return path
 
-    def run_act(self, act, *words):
+    def run_act(self, act: str, *words: str) -> tuple[int, str, str]:
         env = {**os.environ, "PATH": f"{self.bin}:{os.environ['PATH']}"}
         done = subprocess.run([TOP / "network" / "fleet", act, "--fleet", self.room / "fleet.toml", *words], text=True,
                               capture_output=True, env=env, timeout=TIME)
         self.assertNotIn("Traceback", done.stderr)
         return done.returncode, done.stdout, done.stderr
 
-    def rows(self, text):
+    def rows(self, text: str) -> list[tuple[Any, ...]]:
         with contextlib.closing(database.connect(str(self.folder / "network.db"))) as base:
             return base.table(text)[1]
 
@@ -75,7 +77,7 @@ class Daily(OfFleet):
 
     LOADED = ("alder station.journal: 4 touches loaded, 4 in all\nbirch station.journal: 1 touches loaded, 1 in all\n")
 
-    def test_a_day(self):
+    def test_a_day(self) -> None:
         self.assertEqual(self.run_act("load"), (0, self.LOADED, ""))
         self.assertEqual(self.rows("SELECT name, station, first_card FROM servers ORDER BY name"),
                          [("alder", "Alder", 1), ("birch", "Birch", 11)])
@@ -87,7 +89,7 @@ class Daily(OfFleet):
         self.assertEqual((status, re.findall(r"^(\w+): sound, ", out, re.M)), (0, ["alder", "birch"]))
         self.assertTrue((self.folder / "audit.json").is_file())
 
-    def test_the_page_of_a_day(self):
+    def test_the_page_of_a_day(self) -> None:
         self.assertEqual(self.run_act("load")[0], 0)
         status, out, err = self.run_act("report", "--day", DAY)
         if "matplotlib" in err:
@@ -96,7 +98,7 @@ class Daily(OfFleet):
         self.assertIn(f"Monday {DAY}", (self.folder / "pages" / f"{DAY}.html").read_text())
         self.assertEqual(self.run_act("report", "--day", "2025-01-07")[0], 3)
 
-    def test_a_journal_that_another_one_follows_is_closed(self):
+    def test_a_journal_that_another_one_follows_is_closed(self) -> None:
         """The order is that of the copies' moments, and not that of the names."""
         self.put("birch", "a-new.journal", [model.touch(model.ISSUE, 9, 2, 4, MOMENT + 86_400)], MOMENT + 86_400)
         for loaded in (1, 0):
@@ -110,7 +112,7 @@ class Daily(OfFleet):
         self.run_act("audit")
         self.assertIn(f'"file": "{self.folder}/copies/birch/a-new.journal"', (self.folder / "audit.json").read_text())
 
-    def test_a_server_that_fails_does_not_stop_the_others(self):
+    def test_a_server_that_fails_does_not_stop_the_others(self) -> None:
         shutil.rmtree(self.folder / "copies" / "alder")
         missing = (f"fleet: alder: {self.folder}/copies/alder has no copy of a journal; fetch it first (network/fetch)\n")
         self.assertEqual(self.run_act("load"), (1, self.LOADED.splitlines(True)[1], missing))
@@ -119,7 +121,7 @@ class Daily(OfFleet):
         self.assertEqual((status, re.findall(r"^(\w+): sound, ", out, re.M)), (1, ["birch"]))
         self.assertIn(missing, err)
 
-    def test_what_a_check_and_an_audit_find(self):
+    def test_what_a_check_and_an_audit_find(self) -> None:
         self.assertEqual(self.run_act("load")[0], 0)
         self.assertEqual(self.run_act("audit")[0], 0)
         with contextlib.closing(database.connect(str(self.folder / "network.db"))) as base:
@@ -134,7 +136,7 @@ class Daily(OfFleet):
         self.assertEqual(status, 1)
         self.assertIn("alder: fault seal 2 Changed", out)
 
-    def test_what_is_asked_wrong(self):
+    def test_what_is_asked_wrong(self) -> None:
         self.assertEqual(self.run_act("sell")[0], 2)
         self.assertEqual(self.run_act("report", "--day", "today")[0], 2)
         (self.room / "fleet.toml").write_text("tables = 7\n")

@@ -7,7 +7,9 @@ import json
 import re
 import shutil
 import subprocess
+import types
 import unittest
+from typing import Any, ClassVar
 
 import model
 import network_travel
@@ -37,7 +39,7 @@ SERIES = {
     'bovtrila_remote_copy_age_seconds{instance="alder"}': "30x2880",
     'bovtrila_certificate_end_timestamp_seconds{instance="alder",certificate="server"}': "259200x2880"}
 ALDER, BIRCH = '{instance="alder"}', '{instance="birch"}'
-SHOWN = {
+SHOWN: dict[str, list[tuple[str, float]]] = {
     "Servers that answer": [("{}", 1)], "Servers that are halted": [("{}", 1)], "Touches a minute": [(ALDER, 1)],
     "Fullest journal": [("{}", 0.5)], "Timers for a new journal, and changes that failed": [("{}", 2), ("{}", 1)],
     "Time of an answer, 99 of 100": [(BIRCH, 0.0025 + 0.99 * 0.0025)],
@@ -49,16 +51,18 @@ SHOWN = {
     "Until certificates end": [('{instance="alder",certificate="server"}', 86_400)]}
 
 
-def targets(kind):
+def targets(kind: str) -> dict[str, list[dict[str, Any]]]:
     """The panels of a kind of data source, with their queries."""
     return {panel["title"]: panel["targets"] for panel in PANELS
             if panel.get("datasource", {}).get("type") == kind}
 
 
-def exporter():
+def exporter() -> types.ModuleType:
     """The module scripts/exporter."""
     loader = importlib.machinery.SourceFileLoader("exporter", str(TOP / "scripts" / "exporter"))
-    module = importlib.util.module_from_spec(importlib.util.spec_from_loader("exporter", loader))
+    spec = importlib.util.spec_from_loader("exporter", loader)
+    assert spec, "a loader of a file makes one"
+    module = importlib.util.module_from_spec(spec)
     loader.exec_module(module)
     return module
 
@@ -66,7 +70,7 @@ def exporter():
 class Dashboard(unittest.TestCase):
     """The panels of the exporter's metrics."""
 
-    def test_each_panel_has_a_place_and_a_data_source_of_its_own(self):
+    def test_each_panel_has_a_place_and_a_data_source_of_its_own(self) -> None:
         self.assertEqual(len({panel["id"] for panel in PANELS}), len(PANELS))
         cells = [(x, y) for panel in PANELS for of in [panel["gridPos"]]
                  for x in range(of["x"], of["x"] + of["w"]) for y in range(of["y"], of["y"] + of["h"])]
@@ -76,18 +80,18 @@ class Dashboard(unittest.TestCase):
             for target in panel.get("targets", ()):
                 self.assertEqual(target["datasource"], panel["datasource"])
 
-    def test_each_metric_of_the_exporter_is_shown_and_no_other(self):
+    def test_each_metric_of_the_exporter_is_shown_and_no_other(self) -> None:
         shown = {name.removesuffix("_bucket") for of in targets("prometheus").values() for target in of
                  for name in re.findall(r"bovtrila_(\w+)", target["expr"])}
         self.assertEqual(shown, {*exporter().HELP, "enquiry_seconds", "certificate_end_timestamp_seconds"})
 
-    def test_each_query_of_prometheus_has_its_value(self):
+    def test_each_query_of_prometheus_has_its_value(self) -> None:
         if shutil.which("promtool") is None:
             self.skipTest("promtool isn't here (apt-get install prometheus)")
         asked = []
         for title, of in targets("prometheus").items():
-            samples = SHOWN[title] if len(of) == 1 else [[sample] for sample in SHOWN[title]]
-            for target, wanted in zip(of, [samples] if len(of) == 1 else samples, strict=True):
+            samples = [SHOWN[title]] if len(of) == 1 else [[sample] for sample in SHOWN[title]]
+            for target, wanted in zip(of, samples, strict=True):
                 asked.append({"expr": target["expr"].replace("$__rate_interval", INTERVAL), "eval_time": "2d",
                               "exp_samples": [{"labels": labels, "value": value} for labels, value in wanted]})
         self.assertEqual(len(asked), sum(map(len, targets("prometheus").values())))
@@ -102,8 +106,10 @@ class Dashboard(unittest.TestCase):
 class DashboardQueries(OnPostgres, DatabaseTest):
     """The panels of the network's database, as a user of the role bovtrila_reader runs their queries."""
 
+    base: ClassVar[str]
+
     @classmethod
-    def setUpClass(cls):
+    def setUpClass(cls) -> None:
         super().setUpClass()
         cls.base = cls.fresh("dashboard")
         for name in town.SERVERS:
@@ -112,7 +118,7 @@ class DashboardQueries(OnPostgres, DatabaseTest):
             cls.addClassCleanup(cls.town.fronts.update, {name: cls.town.fronts[name]})
             cls.town.fronts[name] = server.fronts[0]
 
-    def shown(self, title):
+    def shown(self, title: str) -> list[tuple[Any, ...]]:
         """The rows of a panel."""
         target, = targets("postgres")[title]
         text = target["rawSql"]
@@ -129,16 +135,16 @@ class DashboardQueries(OnPostgres, DatabaseTest):
             self.assertEqual(names[0], "time")
         return rows
 
-    def test_each_query_is_answered(self):
+    def test_each_query_is_answered(self) -> None:
         for title in targets("postgres"):
             with self.subTest(title):
                 self.assertGreater(len(self.shown(title)), 0)
 
-    def within(self):
+    def within(self) -> list[town.Touch]:
         """The touches of the time that is shown."""
         return [touch for touch in self.town.touches() if RANGE[0] <= town.moment_text(touch.moment) <= RANGE[1]]
 
-    def test_journeys_money_and_maxima_are_those_of_the_requests(self):
+    def test_journeys_money_and_maxima_are_those_of_the_requests(self) -> None:
         touches = [touch for touch in self.within() if touch.accepted and touch.act != "revision"]
         began = [touch for touch in touches if touch.verdict in ("Entered", "EnteredOverOpen")]
         self.assertEqual(sum(row[2] for row in self.shown("Journeys that began")), len(began))
@@ -149,7 +155,7 @@ class DashboardQueries(OnPostgres, DatabaseTest):
         self.assertEqual(sum(row[2] for row in self.shown("Journeys that cost a maximum")),
                          sum(touch.verdict in town.MAXIMA for touch in touches))
 
-    def test_takings_and_caps_are_those_of_the_model(self):
+    def test_takings_and_caps_are_those_of_the_model(self) -> None:
         days = (town.date_text(town.THURSDAY // town.DAY), *DAYS, "2025-02-02")
         takings = network_travel.Takings(self.town, days, model.Table(EXAMPLE.read_text()))
         fares = [(row[1], row[4], *row[6:]) for row in takings.fares()]
@@ -162,7 +168,7 @@ class DashboardQueries(OnPostgres, DatabaseTest):
         self.assertEqual([(row[0][:10], *row[1:]) for row in caps if row[1]],
                          [(row[0], row[5], row[4]) for row in takings.caps() if row[5]])
 
-    def test_refusals_cards_and_loads_are_those_of_the_servers(self):
+    def test_refusals_cards_and_loads_are_those_of_the_servers(self) -> None:
         refused = [touch for touch in self.within() if not touch.accepted]
         rows = self.shown("Refused touches")
         self.assertEqual(rows[0][4], max(row[4] for row in rows))

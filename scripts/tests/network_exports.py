@@ -3,23 +3,26 @@ import contextlib
 import csv
 import io
 import os
+import pathlib
 import shutil
 import signal
 import subprocess
 import unittest
+from typing import ClassVar
 
 import model
 import output
 import town
 from harness import PROGRAM
 from network_answers import MONDAY, journal_of, loaded, travel
-from network_base import FLIPPED, TABLES, TIME, BaseTest, DatabaseTest, OnPostgres, OnSqlite, call, database, load, room
+from network_base import (FLIPPED, TABLES, TIME, BaseTest, DatabaseTest, OnPostgres, OnSqlite, OverBoth,
+                          OverBothWithTown, call, database, load, room)
 
 COLUMNS = ("station", "server", "journal", "place", "moment", "day", "gate", "number", "card", "server_card", "act",
            "station_number", "pence", "verdict", "change", "balance", "transfer")
 
 
-def hledger(file, *words):
+def hledger(file: pathlib.Path, *words: str) -> tuple[int, str]:
     """A run of hledger that ended: its status, and what it wrote."""
     if shutil.which("hledger") is None:
         raise unittest.SkipTest("hledger isn't here (apt-get install hledger)")
@@ -27,7 +30,7 @@ def hledger(file, *words):
     return done.returncode, done.stdout + done.stderr
 
 
-def pence(file, *accounts):
+def pence(file: pathlib.Path, *accounts: str) -> dict[str, int]:
     """The pence in each of these accounts and of those below."""
     status, out = hledger(file, "balance", "--flat", "-N", "-E", "-O", "csv", *accounts)
     if status:
@@ -36,26 +39,29 @@ def pence(file, *accounts):
     return {account: round(100 * float(amount.removeprefix("GBP ").replace(",", "") or 0)) for account, amount in rows}
 
 
-class Exports:
+class Exports(OverBothWithTown):
     """Over the loaded network."""
 
+    base: ClassVar[str]
+    room: ClassVar[pathlib.Path]
+
     @classmethod
-    def setUpClass(cls):
+    def setUpClass(cls) -> None:
         super().setUpClass()
         cls.base, cls.room = cls.fresh("exports"), room("network-exports-")
         for stage in ("friday", "end"):
             for name in town.SERVERS:
                 load(name, stage, cls.base)
 
-    def ledger(self, name, *more):
+    def ledger(self, name: str, *more: str) -> pathlib.Path:
         file = self.room / name
         done = call("export", "ledger", "-o", file, "--database", self.base, *more)
         self.assertEqual((done.returncode, done.stdout, done.stderr), (0, "", ""))
         return file
 
-    def balances(self):
+    def balances(self) -> dict[tuple[str, int], int]:
         """What `balances` writes of each journal as it was loaded: the cards' balances, by server and card."""
-        found = {}
+        found: dict[tuple[str, int], int] = {}
         for name in town.SERVERS:
             journal = self.folder / name / ("friday" if name == FLIPPED else "end") / "station.journal"
             done = subprocess.run([PROGRAM, "balances", "--journal", journal, *TABLES[:1], *self.tables_of(name)],
@@ -65,10 +71,10 @@ class Exports:
         return found
 
     @staticmethod
-    def tables_of(name):
+    def tables_of(name: str) -> list[str | pathlib.Path]:
         return TABLES[1:2] if name == town.LACKS else TABLES[1:]
 
-    def test_the_ledger_is_checked_by_hledger_and_has_the_balances_of_each_card(self):
+    def test_the_ledger_is_checked_by_hledger_and_has_the_balances_of_each_card(self) -> None:
         file, balances = self.ledger("cards.journal", "--cards"), self.balances()
         self.assertEqual(hledger(file, "check", "--strict", "ordereddates"), (0, ""))
         firsts = {name: server.first_card for name, server in self.town.servers.items()}
@@ -76,7 +82,7 @@ class Exports:
             f"liabilities:cards:{name}:station.journal:{firsts[name] + card - 1}": -balance
             for (name, card), balance in balances.items()})
 
-    def test_the_ledger_of_sums_has_the_same_sums(self):
+    def test_the_ledger_of_sums_has_the_same_sums(self) -> None:
         file, balances = self.ledger("sums.journal"), self.balances()
         self.assertEqual(hledger(file, "check", "--strict", "ordereddates"), (0, ""))
         self.assertEqual(pence(file, "liabilities:cards"), {
@@ -92,7 +98,7 @@ class Exports:
             self.assertEqual(sum(pence(file, account).values()), total, account)
         self.assertEqual(sum(pence(file).values()), 0)
 
-    def test_a_changed_touch_fails_an_assertion(self):
+    def test_a_changed_touch_fails_an_assertion(self) -> None:
         for change in ("UPDATE touches SET pence = pence + 100, change = change + 100 WHERE verdict = 'ToppedUp' AND card = 2",
                        "UPDATE touches SET balance = balance + 100 WHERE card = 2"):
             with self.subTest(change):
@@ -107,7 +113,7 @@ class Exports:
                 status, said = hledger(home / "ledger", "check")
                 self.assertEqual((status, "assertion" in said), (1, True), said)
 
-    def test_a_file_of_a_day_has_its_touches(self):
+    def test_a_file_of_a_day_has_its_touches(self) -> None:
         days = sorted({touch.day for touch in self.town.touches()})
         done = call("export", "days", "--from", days[0], "--to", days[-1], "--folder", self.room, "--database", self.base)
         self.assertEqual((done.returncode, done.stderr), (0, ""))
@@ -121,7 +127,7 @@ class Exports:
                              [tuple("" if field is None else str(field) for field in row) for row in wanted])
             self.assertIn(f"{day}.csv: {len(rows)} touches\n", done.stdout)
 
-    def test_wrong_words_and_folders_are_told(self):
+    def test_wrong_words_and_folders_are_told(self) -> None:
         for words, status, said in ((["days"], 2, "days needs --from and --folder"), (["ledger"], 2, "ledger needs -o"),
                                     (["days", "--from", "2025-01-02", "--to", "2025-01-01", "--folder", "."], 2,
                                      "--to is before --from"),
@@ -136,7 +142,7 @@ class Exports:
 class Whole(unittest.TestCase):
     """Files that are written whole or not at all."""
 
-    def test_what_fails_or_is_killed_leaves_the_old_file(self):
+    def test_what_fails_or_is_killed_leaves_the_old_file(self) -> None:
         path = room("network-whole-") / "day.csv"
         path.write_text("old")
         for error in (OSError, KeyboardInterrupt):
@@ -157,10 +163,10 @@ class Whole(unittest.TestCase):
         self.assertEqual((path.read_text(), [*path.parent.iterdir()]), ("new", [path]))
 
 
-class Others:
+class Others(OverBoth):
     """Over databases of other journals."""
 
-    def test_a_closed_journal_is_emptied_into_the_next(self):
+    def test_a_closed_journal_is_emptied_into_the_next(self) -> None:
         base, home = self.fresh("ledgerclosed"), room("network-closed-")
         inside = [model.touch(model.ENTER, 7, 5, 1, 1, MONDAY + 5000)]
         loaded("Alder", journal_of(home / "old", travel(7, 1, 1, MONDAY) + inside), base, "--closed")
@@ -178,7 +184,7 @@ class Others:
             self.assertEqual(sums, {"assets": 2500, "liabilities:cards": -1250, "liabilities:entry charges": 0, "equity": 0,
                                     "income:fares": -350, "income:maxima": -900})
 
-    def test_detached_months_are_refused(self):
+    def test_detached_months_are_refused(self) -> None:
         base, home = self.fresh("ledgerdetached"), room("network-gone-")
         loaded("Alder", journal_of(home / "alder", travel(7, 1, 1, MONDAY)), base)
         with contextlib.closing(database.connect(base)) as opened:

@@ -91,12 +91,12 @@ class FleetFile(unittest.TestCase):
         ('station = "Birch"', "station = Birch", "line 12, column 11: Invalid value; write NAME = VALUE, with text in "
          "quotes")]
 
-    def fault(self, text):
+    def fault(self, text: str) -> str:
         with self.assertRaises(fleet_file.Wrong) as raised:
             fleet_file.parsed(pathlib.Path("fleet.toml"), text)
         return str(raised.exception)
 
-    def test_what_a_file_has(self):
+    def test_what_a_file_has(self) -> None:
         fleet = fleet_file.parsed(pathlib.Path("/etc/bovtrila-network/fleet.toml"), self.TEXT)
         self.assertEqual((str(fleet.copies), fleet.database), ("/srv/network/copies", "service=bovtrila"))
         self.assertEqual(fleet.tables, [f"/etc/bovtrila-network/{name}" for name in ("first.toml", "prices-2026.toml")])
@@ -104,20 +104,20 @@ class FleetFile(unittest.TestCase):
                          [("alder", "Alder", 1, "/srv/copies/alder"),
                           ("birch", "Birch", 100_001, "bovtrila@birch.example:copies")])
 
-    def test_the_file_of_the_package_is_one(self):
+    def test_the_file_of_the_package_is_one(self) -> None:
         fleet = fleet_file.read(TOP / "packaging" / "fleet.toml")
         self.assertEqual([server.name for server in fleet.servers], ["alder", "birch"])
         # Its comments show the defaults.
         self.assertIn(f'#folder = "{fleet.folder}"\n', (TOP / "packaging" / "fleet.toml").read_text())
         self.assertEqual(fleet.database, f"{fleet.folder}/network.db")
 
-    def test_each_fault_names_its_place_the_value_and_what_is_allowed(self):
+    def test_each_fault_names_its_place_the_value_and_what_is_allowed(self) -> None:
         for old, new, fault in self.FAULTS:
             with self.subTest(fault):
                 self.assertEqual(self.TEXT.count(old), 1, old)
                 self.assertEqual(self.fault(self.TEXT.replace(old, new)), fault)
 
-    def test_a_file_without_servers(self):
+    def test_a_file_without_servers(self) -> None:
         text = self.TEXT.partition("[[server]]")[0]
         self.assertEqual(self.fault(text), "there is no server; begin each with a line [[server]]")
         self.assertEqual(self.fault(f"{text}server = 7\n"), "line 5: there is no server; begin each with a line [[server]]")
@@ -126,7 +126,7 @@ class FleetFile(unittest.TestCase):
 class Fetches(unittest.TestCase):
     """What is fetched of two servers' folders, the one here and the other over ssh."""
 
-    def setUp(self):
+    def setUp(self) -> None:
         if not (shutil.which("rsync") and pathlib.Path(PYTHON).exists()):
             self.skipTest("copies are fetched by rsync: not installed")
         room = tempfile.TemporaryDirectory(prefix="network-fleet-")
@@ -142,42 +142,42 @@ class Fetches(unittest.TestCase):
         self.write(birch=f"birch.example:{self.there}")
         self.copies = self.room / "network" / "copies"
 
-    def stand_in(self, start):
+    def stand_in(self, start: str) -> None:
         ssh = self.bin / "ssh"
         ssh.write_text(STAND_IN.format(folder=self.room, start=start.format(folder=self.room)))
         ssh.chmod(0o755)
 
-    def write(self, birch, alder=None):
+    def write(self, birch: str, alder: str | pathlib.Path | None = None) -> None:
         text = FLEET.format(folder=self.room / "network", alder=alder or self.here, birch=birch)
         (self.room / "fleet.toml").write_text(text)
 
-    def words(self, *words):
+    def words(self, *words: str) -> list[str | pathlib.Path]:
         return [FETCH, "--fleet", self.room / "fleet.toml", *words]
 
     @property
-    def env(self):
+    def env(self) -> dict[str, str]:
         return {**os.environ, "PATH": f"{self.bin}:{os.environ['PATH']}"}
 
-    def fetch(self, *words):
+    def fetch(self, *words: str) -> tuple[int, str, str]:
         done = subprocess.run(self.words(*words), capture_output=True, text=True, timeout=TIME, env=self.env)
         self.assertNotIn("Traceback", done.stderr)
         return done.returncode, done.stdout, done.stderr
 
-    def have(self):
+    def have(self) -> dict[str, bytes]:
         """The files that were fetched, with their bytes."""
         return {str(path.relative_to(self.copies)): path.read_bytes()
                 for path in sorted(self.copies.rglob("*")) if path.is_file()}
 
     BOTH = f"alder station.journal: {NEW}, 2000 bytes\nbirch station.journal: {NEW}, 2000 bytes\n"
 
-    def test_the_newest_copy_of_each_server(self):
+    def test_the_newest_copy_of_each_server(self) -> None:
         for _ in range(2):
             self.assertEqual(self.fetch(), (0, self.BOTH, ""))
             self.assertEqual(self.have(), {"alder/station.journal": b"a" * 2000, "birch/station.journal": b"b" * 2000})
         self.assertEqual([path.name for path in (self.copies / "alder").iterdir()], ["station.journal"])
         self.assertIn("-o BatchMode=yes", (self.room / "asked").read_text())
 
-    def test_each_journal_and_no_other_file(self):
+    def test_each_journal_and_no_other_file(self) -> None:
         for name in ("first.toml", "seals", f"{NEW}.refused", "station-20260105.journal-20260106T033000Z",
                      "station-20260105.journal-20260107T033000Z", "notes.journal"):
             (self.here / name).write_bytes(name.encode())
@@ -187,14 +187,14 @@ class Fetches(unittest.TestCase):
             "alder/notes.journal": b"notes.journal", "alder/station.journal": b"a" * 2000,
             "alder/station-20260105.journal": b"station-20260105.journal-20260107T033000Z"})
 
-    def test_a_key_that_may_only_read_one_folder(self):
+    def test_a_key_that_may_only_read_one_folder(self) -> None:
         if not shutil.which("rrsync"):
             self.skipTest("a key that may only read: rrsync isn't there")
         self.stand_in(READING)
         self.write(birch="birch.example:/")
         self.assertEqual(self.fetch(), (0, self.BOTH, ""))
 
-    def test_a_server_that_fails_is_named_and_the_others_are_fetched(self):
+    def test_a_server_that_fails_is_named_and_the_others_are_fetched(self) -> None:
         self.assertEqual(self.fetch()[0], 0)
         (self.here / "station.journal-20260106T033000Z").write_bytes(b"c")
         self.write(birch="away.example:/srv")
@@ -204,7 +204,7 @@ class Fetches(unittest.TestCase):
         self.assertEqual(len(err.splitlines()), 1)
         self.assertEqual(self.have(), {"alder/station.journal": b"c", "birch/station.journal": b"b" * 2000})
 
-    def test_a_folder_without_copies_and_none(self):
+    def test_a_folder_without_copies_and_none(self) -> None:
         empty = self.room / "empty"
         empty.mkdir()
         self.write(birch=f"{empty}/", alder="/gone")
@@ -215,7 +215,7 @@ class Fetches(unittest.TestCase):
         self.assertEqual(birch, f"fetch: birch: {empty}: it has no copy of a journal: a file that ends in .journal or "
                                 ".journal-20260105T033000Z")
 
-    def test_a_run_that_is_killed_leaves_the_copy_before(self):
+    def test_a_run_that_is_killed_leaves_the_copy_before(self) -> None:
         self.assertEqual(self.fetch("alder")[0], 0)
         newer = os.urandom(1 << 20)
         (self.here / "station.journal-20260106T033000Z").write_bytes(newer)
@@ -237,8 +237,8 @@ class Fetches(unittest.TestCase):
         self.assertEqual(self.have(), {"alder/station.journal": newer})
         self.assertEqual([path.name for path in (self.copies / "alder").iterdir()], ["station.journal"])
 
-    def test_the_moment_of_each_server_s_last_fetch(self):
-        def moments():
+    def test_the_moment_of_each_server_s_last_fetch(self) -> None:
+        def moments() -> dict[str, int]:
             text = (self.room / "network" / "metrics" / "bovtrila-network-fetch.prom").read_text()
             return {server: int(moment) for server, moment in re.findall(r'_seconds{server="(\w+)",.*} (\d+)', text)}
         begun = int(time.time())
@@ -252,16 +252,17 @@ class Fetches(unittest.TestCase):
         self.assertEqual(second["alder"], first["alder"])
         self.assertTrue(begun <= second["birch"] <= time.time(), second)
 
-    def test_two_runs_at_once(self):
+    def test_two_runs_at_once(self) -> None:
         self.assertEqual(self.fetch()[0], 0)
         holder = subprocess.Popen(["flock", self.copies, "sh", "-c", "echo held; read line"], stdin=subprocess.PIPE,
                                   stdout=subprocess.PIPE, text=True)
+        assert holder.stdout, "a pipe"
         self.assertEqual(holder.stdout.readline(), "held\n")
         said = self.fetch()
         holder.communicate("\n", timeout=TIME)
         self.assertEqual(said, (1, "", f"fetch: {self.copies}: another run fetches copies; wait for its end\n"))
 
-    def test_what_is_asked_wrong(self):
+    def test_what_is_asked_wrong(self) -> None:
         status, out, err = self.fetch("cedar")
         self.assertEqual((status, out), (2, ""))
         self.assertTrue(err.endswith(f"error: {self.room}/fleet.toml has no server cedar\n"), err)
@@ -269,7 +270,7 @@ class Fetches(unittest.TestCase):
         self.assertEqual(self.fetch(), (1, "", f"fetch: {self.room}/fleet.toml: there is no such file; copy "
                                                "/usr/share/bovtrila/fleet.toml, and write your servers into it\n"))
 
-    def test_the_file_alone_is_checked(self):
+    def test_the_file_alone_is_checked(self) -> None:
         status, out, err = self.fetch("--check")
         self.assertEqual((status, err), (0, ""))
         self.assertEqual(out, f"alder: station Alder, cards from 1 on, from {self.here}\n"

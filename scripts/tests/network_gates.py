@@ -4,9 +4,14 @@ import collections
 import contextlib
 import hashlib
 import random
+from collections.abc import Iterable, Iterator, Sequence
+from typing import ClassVar, TypeAlias
 
 import town
-from network_base import BaseTest, OnPostgres, OnSqlite, database, gates, queries
+from network_base import BaseTest, OnPostgres, OnSqlite, OverBoth, database, gates, queries
+
+# A touch's moment, its gate, and whether it is a revision.
+Touch: TypeAlias = tuple[int, int, bool]
 
 # Monday 2025-01-06 at 00:00 UTC; the journals, the touches of each, and their gates, of which the odd ones have clocks that
 # are put forward and back.
@@ -26,11 +31,13 @@ ORDER BY station, server, gate
 """
 
 
-def histories():
+def histories() -> Iterator[tuple[int, list[Touch]]]:
     """Touches of each journal: a moment, a gate, and whether it is a revision."""
     draws = random.Random(4014)
     for journal in range(1, JOURNALS + 1):
-        moment, off, touches = MONDAY, collections.Counter(), []
+        moment = MONDAY
+        off: collections.Counter[int] = collections.Counter()
+        touches: list[Touch] = []
         for _ in range(TOUCHES):
             moment += draws.randrange(0, 2400, 10)
             gate = draws.randint(1, GATES)
@@ -40,22 +47,25 @@ def histories():
         yield journal, touches
 
 
-def day_of(moment):
+def day_of(moment: int) -> str:
     return town.date_text(moment // town.DAY)
 
 
-def lines_of(journal, touches, first):
+def lines_of(journal: int, touches: Iterable[Touch], first: int) -> Iterator[str]:
     """The rows of these touches, as the table `touches` has them: issues that were refused, and revisions."""
     for place, (moment, gate, revision) in enumerate(touches, first):
         act = "0,revision,,,Revised" if revision else "7,issue,,,AlreadyIssued"
         yield f"{journal},{place},{town.moment_text(moment)},{day_of(moment)},{gate},{place},{act},0,0\n"
 
 
-class Gates:
+class Gates(OverBoth):
     """Over both databases."""
 
+    base: ClassVar[str]
+    touches: ClassVar[dict[int, list[Touch]]]
+
     @classmethod
-    def setUpClass(cls):
+    def setUpClass(cls) -> None:
         super().setUpClass()
         cls.base, cls.touches = cls.fresh("gates"), dict(histories())
         with contextlib.closing(database.connect(cls.base)) as base:
@@ -74,16 +84,17 @@ class Gates:
             base.commit()
 
     @staticmethod
-    def add(base, journal, touches):
+    def add(base: database.Database, journal: int, touches: Sequence[Touch]) -> None:
         """Adds the touches of a journal in many parts, as loads do. Some moments go back from a part to the next."""
         ends = [*range(0, len(touches), 7), len(touches)]
         for first, end in zip(ends, ends[1:]):
             base.copy(lines_of(journal, touches[first:end], first))
             gates.advance(base, journal, "loaded", first, end)
 
-    def steps(self, days):
+    def steps(self, days: tuple[str, str] | None) -> dict[tuple[int, int], list[tuple[int, int]]]:
         """The steps back between a gate's touches of these days, by journal and gate: pairs of seconds and a place."""
-        found, last = collections.defaultdict(list), {}
+        found: dict[tuple[int, int], list[tuple[int, int]]] = collections.defaultdict(list)
+        last: dict[tuple[int, int], int] = {}
         for journal, touches in self.touches.items():
             for place, (moment, gate, revision) in enumerate(touches):
                 if not revision and (days is None or days[0] <= day_of(moment) <= days[1]):
@@ -92,7 +103,7 @@ class Gates:
                     last[journal, gate] = moment
         return found
 
-    def test_each_gate_has_its_last_moment_and_the_times_that_it_went_back(self):
+    def test_each_gate_has_its_last_moment_and_the_times_that_it_went_back(self) -> None:
         steps = self.steps(None)
         last = {(journal, gate): moment for journal, touches in self.touches.items()
                 for moment, gate, revision in touches if not revision}
@@ -101,7 +112,7 @@ class Gates:
         self.assertEqual([gate for _, gate, *_, times in wanted if times], [1, 3, 5] * JOURNALS)
         self.assertEqual(self.asked(self.base, "SELECT journal, gate, stage, moment, times_back FROM gates ORDER BY 1, 2"), wanted)
 
-    def test_clocks_has_the_rows_of_a_pass_over_all_touches(self):
+    def test_clocks_has_the_rows_of_a_pass_over_all_touches(self) -> None:
         days = sorted({day_of(moment) for touches in self.touches.values() for moment, *_ in touches})
         self.assertGreater(len(days), 5)
         answers = set()

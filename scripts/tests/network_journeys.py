@@ -4,16 +4,19 @@ import contextlib
 import datetime
 import hashlib
 import os
+import pathlib
 import random
+import subprocess
 import time
 import unittest
+from collections.abc import Iterator, Sequence
 
 import fares
 import model
 import network_travel
 import town
 from harness import EXAMPLE, PROGRAM
-from network_base import TABLES, BaseTest, OnPostgres, OnSqlite, call, database, room
+from network_base import TABLES, BaseTest, OnPostgres, OnSqlite, OverBoth, call, database, room
 
 ROWS = """
 SELECT place, kind, server_card, day, began, ended, origin, destination, legs, changes, band, fare, charged
@@ -46,14 +49,14 @@ JOURNEYS = [
     ("inside", 5, "08:05:00", None, 4, None, 0, None, "peak", None, 900)]
 
 
-def seconds(clock):
+def seconds(clock: str) -> int:
     parts = [*map(int, clock.split(":")), 0][:3]
     return 3600 * parts[0] + 60 * parts[1] + parts[2]
 
 
-def worked_frames():
+def worked_frames() -> list[bytes]:
     """The touches of the worked examples, each card with 5000 pence."""
-    frames = []
+    frames: list[bytes] = []
     for card, touches in WORKED.items():
         acts = [(model.ISSUE, ()), (model.TOP_UP, (5000,)), *((kind, (station,)) for _, kind, station in touches)]
         moments = [0, 0, *(seconds(clock) for clock, *_ in touches)]
@@ -62,17 +65,17 @@ def worked_frames():
     return frames
 
 
-class Journeys:
+class Journeys(OverBoth):
     """Over both databases."""
 
-    def loaded(self, base, journal, *tables):
+    def loaded(self, base: str, journal: pathlib.Path, *tables: pathlib.Path) -> subprocess.CompletedProcess[str]:
         return call("load", "--station", "Alder", "--journal", journal, "--database", base, "--program", PROGRAM,
                     "--table", *(tables or TABLES[1:]))
 
-    def of_database(self, base):
+    def of_database(self, base: str) -> list[network_travel.Row]:
         return [network_travel.Row(*row) for row in self.asked(base, ROWS)]
 
-    def test_the_worked_examples(self):
+    def test_the_worked_examples(self) -> None:
         base, journal = self.fresh("worked"), room("network-worked-") / "alder"
         journal.write_bytes(model.journal_of(worked_frames(), 1000, 10, model.Table(EXAMPLE.read_text()).digest))
         done = self.loaded(base, journal)
@@ -83,7 +86,7 @@ class Journeys:
         self.assertEqual(self.asked(base, "SELECT number, name, zones FROM fare_stations ORDER BY number"),
                          [(1, "Alder", "1"), (2, "Birch", "2"), (3, "Cedar", "3"), (4, "Damson", "1"), (5, "Elder", "2/3")])
 
-    def test_generated_journeys_are_those_of_the_model(self):
+    def test_generated_journeys_are_those_of_the_model(self) -> None:
         """In four loads, which cut legs and journeys apart."""
         made, home = network_travel.generated(), room("network-generated-")
         tables = [home / f"{place}.toml" for place in range(3)]
@@ -104,7 +107,7 @@ class Journeys:
         self.assertEqual(self.asked(base, names.format("=")), [("Birch", "2")])
         self.assertIn(("Birke", "1/2"), self.asked(base, names.format("<>")))
 
-    def assert_sums(self, base, made, front):
+    def assert_sums(self, base: str, made: network_travel.Generated, front: int) -> None:
         """The sums by card and day, and by card, are what the card was charged."""
         days = self.asked(base, "SELECT server_card, day, sum(charged) FROM travel WHERE kind = 'journey'"
                                 " GROUP BY server_card, day")
@@ -113,27 +116,27 @@ class Journeys:
                                   "(SELECT sum(travel.charged) FROM travel WHERE travel.card = held.card), 0)")
         self.assertEqual(unlike, [])
 
-    def assert_is_varied(self, made, rows):
+    def assert_is_varied(self, made: network_travel.Generated, rows: Sequence[network_travel.Row]) -> None:
         """The generated cards have what a rule could get wrong."""
         self.assertEqual({row.kind for row in rows}, {"journey", "inside", "unfinished", "late", "unstarted"})
         journeys = [row for row in rows if row.kind == "journey"]
         self.assertLessEqual({1, 2, 3}, {row.legs for row in journeys})
-        self.assertGreater(sum(row.charged < row.fare for row in journeys), 100)
+        self.assertGreater(sum(row.charged < (row.fare or 0) for row in journeys), 100)
         self.assertGreater(sum(row.charged == 0 for row in journeys), 20)
         # The second leg began on a day of another table.
         revised = [town.date_text(day) for _, day in made.station.schedule.revisions]
-        over = [row for row in journeys if row.legs > 1 and row.day < self.day_of(made, row.ended) in revised]
+        over = [row for row in journeys if row.legs > 1 and row.day < self.day_of(made, row.ended or "") in revised]
         self.assertGreater(len(over), 0)
         for moment in ("2025-03-30T01:00:00Z", "2025-10-26T01:00:00Z"):
-            self.assertGreater(sum(row.began < moment <= row.ended for row in journeys), 1)
+            self.assertGreater(sum((row.began or "") < moment <= (row.ended or "") for row in journeys), 1)
         self.assertEqual({row.band for row in journeys}, {"peak", "off-peak"})
 
     @staticmethod
-    def day_of(made, moment):
+    def day_of(made: network_travel.Generated, moment: str) -> str:
         """The fare day of a moment."""
         return town.date_text(made.station.schedule.stamp(int(datetime.datetime.fromisoformat(moment).timestamp())).day)
 
-    def test_a_table_that_python_cant_read_has_no_fares_and_no_names(self):
+    def test_a_table_that_python_cant_read_has_no_fares_and_no_names(self) -> None:
         base, home = self.fresh("newer_toml"), room("network-newer-toml-")
         # TOML 1.1 allows a comma after the last value of an inline table.
         text = EXAMPLE.read_text().replace("minutes = 10}", "minutes = 10,}")
@@ -149,7 +152,7 @@ class Journeys:
         self.assertEqual(self.asked(base, "SELECT count(*) FROM fare_stations"), [(0,)])
         self.assertEqual(call("check", "--database", base).returncode, 0)
 
-    def test_a_changed_journey_is_found_by_a_check(self):
+    def test_a_changed_journey_is_found_by_a_check(self) -> None:
         base, journal = self.fresh("changed_journeys"), room("network-changed-") / "alder"
         journal.write_bytes(model.journal_of(worked_frames(), 1000, 10, model.Table(EXAMPLE.read_text()).digest))
         self.loaded(base, journal)
@@ -172,7 +175,7 @@ class Journeys:
             self.assertEqual(call("check", "--database", base).returncode, 0)
 
     @contextlib.contextmanager
-    def changed(self, base, change):
+    def changed(self, base: str, change: str) -> Iterator[None]:
         """A change of rows, which is taken back."""
         tables = ("journeys", "last_journeys")
         with contextlib.closing(database.connect(base)) as opened:
@@ -202,9 +205,9 @@ class PostgresJourneys(Journeys, OnPostgres, BaseTest):
 class Zones(unittest.TestCase):
     """The clock of a POSIX TZ rule, beside that of the C library."""
 
-    def test_a_clock_is_that_of_its_rule(self):
+    def test_a_clock_is_that_of_its_rule(self) -> None:
         self.addCleanup(time.tzset)
-        self.addCleanup(os.environ.update, TZ=os.environ.get("TZ", "UTC0"))
+        self.addCleanup(os.environ.__setitem__, "TZ", os.environ.get("TZ", "UTC0"))
         draw = random.Random(3)
         for rule in ("GMT0BST,M3.5.0/1,M10.5.0", "GMT0BST,M3.5.0/1,M10.5.0/5", "STD0DST-6,J6/12,J7/6", "<+0330>-3:30", "UTC0",
                      "NZST-12NZDT,M9.5.0,M4.1.0/3", "<-02>2<-01>,M3.5.0/-1,M10.5.0/0", "IST-1GMT0,M10.5.0,M3.5.0/1"):

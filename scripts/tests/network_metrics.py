@@ -24,13 +24,13 @@ SEAL = "bovtrila_network_seal_changed"
 class Metrics(OfFleet):
     """What the files say after each act."""
 
-    def fleet(self):
+    def fleet(self) -> fleet_file.Fleet:
         return fleet_file.read(self.room / "fleet.toml")
 
-    def values(self, act):
+    def values(self, act: str) -> fleet_metrics.Values:
         return fleet_metrics.values(fleet_metrics.path_of(self.fleet(), act))
 
-    def done(self, act, status):
+    def done(self, act: str, status: int) -> dict[str, bool]:
         """Runs an act: by the server whether it has a new moment."""
         begun = int(time.time())
         self.assertEqual(self.run_act(act)[0], status)
@@ -38,12 +38,12 @@ class Metrics(OfFleet):
         return {server: begun <= moment <= time.time() for (metric, server), moment in self.values(act).items()
                 if metric == name}
 
-    def earlier(self, act):
+    def earlier(self, act: str) -> None:
         """Sets all moments of an act to 1000."""
         path = fleet_metrics.path_of(self.fleet(), act)
         path.write_text(re.sub(r" \d{9,}$", " 1000", path.read_text(), flags=re.M))
 
-    def test_each_act_notes_the_servers_that_succeeded(self):
+    def test_each_act_notes_the_servers_that_succeeded(self) -> None:
         for act in ("load", "check", "audit"):
             self.assertEqual(self.done(act, 0), {"alder": True, "birch": True})
             path = fleet_metrics.path_of(self.fleet(), act)
@@ -55,14 +55,14 @@ class Metrics(OfFleet):
             self.assertEqual(self.done(act, 1), {"alder": False, "birch": True})
             self.assertIn(1000, self.values(act).values())
 
-    def test_a_server_that_never_succeeded_has_the_moment_0(self):
+    def test_a_server_that_never_succeeded_has_the_moment_0(self) -> None:
         shutil.rmtree(self.folder / "copies")
         for act in ("load", "audit"):
             self.assertEqual(self.run_act(act)[0], 1)
         self.assertEqual(set(self.values("load").values()), {0})
         self.assertFalse(fleet_metrics.path_of(self.fleet(), "audit").exists())
 
-    def test_a_seal_that_changed(self):
+    def test_a_seal_that_changed(self) -> None:
         self.run_act("load")
         self.assertEqual(self.done("audit", 0), {"alder": True, "birch": True})
         self.earlier("audit")
@@ -73,7 +73,7 @@ class Metrics(OfFleet):
         self.assertEqual({server: value for (name, server), value in self.values("audit").items() if name == SEAL},
                          {"alder": 1, "birch": 0})
 
-    def test_another_journal_is_a_seal_that_changed_until_the_next_audit(self):
+    def test_another_journal_is_a_seal_that_changed_until_the_next_audit(self) -> None:
         self.run_act("load")
         self.run_act("audit")
         self.put("birch", "next.journal", [model.touch(model.ISSUE, 9, 7, 5, MOMENT)], MOMENT + 60)
@@ -82,7 +82,7 @@ class Metrics(OfFleet):
             self.assertEqual(self.done("audit", status), {"alder": True, "birch": True})
             self.assertEqual((self.values("audit")[SEAL, "alder"], self.values("audit")[SEAL, "birch"]), (0, changed))
 
-    def test_a_file_is_written_whole_or_not_at_all(self):
+    def test_a_file_is_written_whole_or_not_at_all(self) -> None:
         self.folder.mkdir(exist_ok=True)
         fleet_metrics.write(self.fleet(), "load", ["alder"])
         before = self.values("load")
@@ -93,7 +93,7 @@ class Metrics(OfFleet):
         fleet_metrics.write(self.fleet(), "load", ["birch"])
         self.assertEqual([path.name for path in (self.folder / "metrics").iterdir()], ["bovtrila-network-load.prom"])
 
-    def test_prometheus_reads_them(self):
+    def test_prometheus_reads_them(self) -> None:
         if shutil.which("promtool") is None:
             self.skipTest("metrics: promtool isn't installed (prometheus)")
         file = self.room / "fleet.toml"
@@ -110,27 +110,27 @@ class Metrics(OfFleet):
 class Alerts(unittest.TestCase):
     """The alert rules, by promtool."""
 
-    def setUp(self):
+    def setUp(self) -> None:
         if shutil.which("promtool") is None:
             self.skipTest("alert rules: promtool isn't installed (prometheus)")
         room = tempfile.TemporaryDirectory(prefix="network-alerts-")
         self.addCleanup(room.cleanup)
         self.folder = pathlib.Path(room.name)
 
-    def holds(self, rules):
+    def holds(self, rules: str) -> bool:
         """Whether rules of this text do what their cases say."""
         (self.folder / "alerts.yml").write_text(rules)
         shutil.copy(CASES, self.folder / "alerts-test.yml")
         done = subprocess.run(["promtool", "test", "rules", self.folder / "alerts-test.yml"], capture_output=True)
         return done.returncode == 0
 
-    def test_the_rules_are_valid_and_do_what_their_cases_say(self):
+    def test_the_rules_are_valid_and_do_what_their_cases_say(self) -> None:
         done = subprocess.run(["promtool", "check", "rules", ALERTS], capture_output=True, text=True)
         self.assertEqual(done.returncode, 0, done.stdout + done.stderr)
         self.assertIn("SUCCESS: 6 rules found", done.stdout)
         self.assertTrue(self.holds(ALERTS.read_text()))
 
-    def test_another_rule_in_the_place_of_one_is_found(self):
+    def test_another_rule_in_the_place_of_one_is_found(self) -> None:
         text = ALERTS.read_text()
         for name in re.findall(r"- alert: (\w+)", text):
             for other in ("vector(0) == 1", "vector(1) == 1"):
@@ -142,7 +142,7 @@ class Alerts(unittest.TestCase):
             with self.subTest(other):
                 self.assertFalse(self.holds(text.replace(was, other)))
 
-    def test_the_rules_have_the_metrics_that_are_written(self):
+    def test_the_rules_have_the_metrics_that_are_written(self) -> None:
         written = {name for metrics in fleet_metrics.METRICS.values() for name in metrics}
         self.assertEqual(set(re.findall(r"\bbovtrila_network_\w+", ALERTS.read_text())), written)
         page = (TOP / "docs" / "NETWORK.md").read_text()

@@ -4,11 +4,12 @@ import contextlib
 import os
 import pathlib
 import subprocess
+from typing import Any
 
 import postgres
 import town
-from network_base import (NETWORK, TIME, DatabaseTest, OnPostgres, OnSqlite, call, cluster, database, everything, load,
-                          room)
+from network_base import (NETWORK, TIME, DatabaseTest, OnPostgres, OnSqlite, OverBothWithTown, call, cluster, database,
+                          everything, load, room)
 
 # The files that make the tables of each earlier version.
 HERE = pathlib.Path(__file__).parent
@@ -29,10 +30,16 @@ COLUMNS[3] = COLUMNS[4] = {**COLUMNS[2], "gates": "*"}
 LOADED = ("alder-1", town.WRONG)
 
 
-class Migrations:
+class Migrations(OverBothWithTown):
     """A database of an earlier version with rows, and one that was loaded by these programs."""
 
-    def earlier(self, version, name, new, owner=None):
+    def schemas(self, base: str) -> list[str] | None:
+        raise NotImplementedError
+
+    def catalogue(self, base: str) -> list[Any]:
+        raise NotImplementedError
+
+    def earlier(self, version: int, name: str, new: str, owner: str | None = None) -> str:
         """A database of an earlier version with the rows of one of today's. In PostgreSQL it may have another owner."""
         with contextlib.closing(database.connect(new)) as base:
             rows = {table: base.table(f"SELECT {columns} FROM {table}") for table, columns in COLUMNS[version].items()}
@@ -59,12 +66,12 @@ class Migrations:
             base.commit()
         return old
 
-    def test_a_migrated_database_is_like_a_new_one(self):
+    def test_a_migrated_database_is_like_a_new_one(self) -> None:
         for version in COLUMNS:
             with self.subTest(version=version):
                 self.migrate_and_continue(version)
 
-    def migrate_and_continue(self, version):
+    def migrate_and_continue(self, version: int) -> None:
         new = self.fresh(f"new{version}")
         for name in LOADED:
             self.assertEqual(load(name, "friday", new).returncode, 0)
@@ -90,7 +97,7 @@ class Migrations:
             self.assertEqual([call("check", *more, "--database", base).returncode for more in ((), ("--all",))], [0, 0])
         self.assertEqual(everything(old), everything(new))
 
-    def test_a_migration_that_fails_changes_nothing(self):
+    def test_a_migration_that_fails_changes_nothing(self) -> None:
         new = self.fresh("sound")
         self.assertEqual(load("alder-1", "friday", new).returncode, 0)
         old = self.earlier(1, "broken", new)
@@ -104,7 +111,7 @@ class Migrations:
         self.assertIn("remove the journal's rows, migrate, and load it again", done.stderr)
         self.assertEqual(everything(old), before)
 
-    def test_a_newer_version_is_refused(self):
+    def test_a_newer_version_is_refused(self) -> None:
         base = self.fresh("newer")
         self.assertEqual(load("alder-1", "friday", base).returncode, 0)
         with contextlib.closing(database.connect(base)) as opened:
@@ -120,10 +127,10 @@ class Migrations:
 class SqliteMigrations(Migrations, OnSqlite, DatabaseTest):
     """In SQLite."""
 
-    def schemas(self, _):
+    def schemas(self, _: str) -> None:
         """SQLite has no schemas."""
 
-    def catalogue(self, base):
+    def catalogue(self, base: str) -> list[Any]:
         """The tables with their columns, and the views and indexes."""
         names = self.asked(base, "SELECT type, name FROM sqlite_master ORDER BY type, name")
         return [(*each, self.asked(base, f"SELECT name, type, \"notnull\", pk FROM pragma_table_info('{each[1]}')"
@@ -133,7 +140,7 @@ class SqliteMigrations(Migrations, OnSqlite, DatabaseTest):
 class PostgresMigrations(Migrations, OnPostgres, DatabaseTest):
     """In PostgreSQL."""
 
-    def schemas(self, base):
+    def schemas(self, base: str) -> list[str]:
         """The schemas that have a table, a view, an index, a type or a function, but for PostgreSQL's own."""
         return [name for name, in self.asked(base, """
             SELECT DISTINCT nspname FROM pg_namespace
@@ -141,7 +148,7 @@ class PostgresMigrations(Migrations, OnPostgres, DatabaseTest):
                   UNION SELECT pronamespace FROM pg_proc) AS used USING (oid)
             WHERE nspname NOT LIKE 'pg%' AND nspname <> 'information_schema' ORDER BY nspname""")]
 
-    def test_all_is_in_a_schema_of_its_own(self):
+    def test_all_is_in_a_schema_of_its_own(self) -> None:
         base = self.fresh("applications")
         with contextlib.closing(database.connect(base)) as opened:
             # Those of another application.
@@ -155,7 +162,7 @@ class PostgresMigrations(Migrations, OnPostgres, DatabaseTest):
         self.assertEqual(load(LOADED[0], "friday", alone).returncode, 0)
         self.assertEqual(self.schemas(alone), ["bovtrila"])
 
-    def test_the_owner_of_a_database_migrates_it(self):
+    def test_the_owner_of_a_database_migrates_it(self) -> None:
         new = self.fresh("of_postgres")
         self.assertEqual(load(LOADED[0], "friday", new).returncode, 0)
         with contextlib.closing(database.connect(new)) as base:
@@ -166,7 +173,7 @@ class PostgresMigrations(Migrations, OnPostgres, DatabaseTest):
         self.assertEqual((done.stdout, done.stderr), ("version 3 -> 5\n", ""))
         self.assertEqual([load(LOADED[0], "end", old).returncode, call("check", "--database", old).returncode], [0, 0])
 
-    def test_a_database_with_a_detached_month_is_migrated(self):
+    def test_a_database_with_a_detached_month_is_migrated(self) -> None:
         new = self.fresh("month_off")
         self.assertEqual([load(name, "friday", new).returncode for name in LOADED], [0, 0])
         self.assertEqual(call("detach", "--before", "2025-02", "--database", new).returncode, 0)
@@ -177,18 +184,18 @@ class PostgresMigrations(Migrations, OnPostgres, DatabaseTest):
         self.assertEqual(call("migrate", "--database", old).stdout, "version 2 -> 5\n")
         self.assertEqual(self.schemas(old), ["bovtrila"])
         answers, travels = [], []
-        for base in (old, new):
-            self.assertEqual([load(name, "end", base).returncode for name in LOADED], [0, 0])
-            self.assertEqual([call("check", *more, "--database", base).returncode for more in ((), ("--all",))], [0, 0])
-            travels.append(set(self.asked(base, "SELECT server, place, kind, day, legs, fare, charged FROM travel")))
-            answers.append(call("query", "clocks", "--from", town.FRIDAY, "--to", town.SATURDAY, "--database", base).stdout)
+        for name in (old, new):
+            self.assertEqual([load(server, "end", name).returncode for server in LOADED], [0, 0])
+            self.assertEqual([call("check", *more, "--database", name).returncode for more in ((), ("--all",))], [0, 0])
+            travels.append(set(self.asked(name, "SELECT server, place, kind, day, legs, fare, charged FROM travel")))
+            answers.append(call("query", "clocks", "--from", town.FRIDAY, "--to", town.SATURDAY, "--database", name).stdout)
         self.assertEqual(answers[0], answers[1])
         # Journeys that began in the detached month are missing, and no others.
         self.assertLess(travels[0], travels[1])
         self.assertEqual({row[3][:7] for row in travels[1] - travels[0]}, {"2025-01"})
         self.assertIn(f",{town.WRONG},{town.GATE},", answers[0])
 
-    def catalogue(self, base):
+    def catalogue(self, base: str) -> list[Any]:
         """The columns, the constraints and the indexes of all tables, and the views."""
         return [self.asked(base, text) for text in (
             "SELECT table_name, column_name, data_type, is_nullable, column_default FROM information_schema.columns"
@@ -203,11 +210,13 @@ class PostgresMigrations(Migrations, OnPostgres, DatabaseTest):
 class Owners(OnPostgres, DatabaseTest):
     """Roles, names of a database, and detached months, which PostgreSQL alone has."""
 
-    def psql(self, base, *words):
-        return subprocess.run([postgres.programs() / "psql", base, "-v", "ON_ERROR_STOP=1", "-q", *map(str, words)],
+    def psql(self, base: str, *words: object) -> subprocess.CompletedProcess[str]:
+        programs = postgres.programs()
+        assert programs, "PostgreSQL is here"
+        return subprocess.run([programs / "psql", base, "-v", "ON_ERROR_STOP=1", "-q", *map(str, words)],
                               capture_output=True, text=True, timeout=TIME)
 
-    def test_each_role_may_do_what_it_is_for(self):
+    def test_each_role_may_do_what_it_is_for(self) -> None:
         base = self.fresh("roles")
         self.assertEqual(load("alder-1", "friday", base).returncode, 0)
         for _ in range(2):
@@ -234,7 +243,7 @@ class Owners(OnPostgres, DatabaseTest):
                 self.assertEqual((done.returncode, "permission denied" in done.stderr or "must be owner" in done.stderr),
                                  (1, True), done.stderr)
 
-    def test_a_database_is_named_as_libpq_names_it(self):
+    def test_a_database_is_named_as_libpq_names_it(self) -> None:
         base, home = self.fresh("named"), room("network-named-")
         port = cluster().port
         (home / "services").write_text(f"[town]\nhost=127.0.0.1\nport={port}\ndbname=named\nuser=postgres\n")
@@ -249,7 +258,7 @@ class Owners(OnPostgres, DatabaseTest):
                 done = call("query", "holdings", "--database", name, env=dict(env))
                 self.assertEqual((done.returncode, done.stdout), (0, wanted), done.stderr)
 
-    def test_months_are_detached_once_everything_was_checked(self):
+    def test_months_are_detached_once_everything_was_checked(self) -> None:
         base = self.fresh("months_off")
         for name in ("alder-1", "birch-1"):
             self.assertEqual(load(name, "friday", base).returncode, 0)
@@ -279,7 +288,7 @@ class Owners(OnPostgres, DatabaseTest):
                               " (SELECT max(place) FROM bovtrila.touches AS last WHERE last.journal = touches.journal)")
         self.assertEqual(call("check", "--all", "--database", base).returncode, 3)
 
-    def test_sqlite_has_no_months_to_detach(self):
+    def test_sqlite_has_no_months_to_detach(self) -> None:
         done = call("detach", "--before", "2025-02", "--database", "network.db")
         self.assertEqual((done.returncode, done.stdout), (2, ""))
         self.assertIn("SQLite has no partitions; name a database of PostgreSQL", done.stderr)

@@ -1,15 +1,22 @@
 """A server whose calls on its journal and whose answers are noted, whose flushes are slowed down, and which is killed at one of
 its calls: by two libraries that are put before the C library's."""
-import collections
 import os
 import pathlib
 import tempfile
+from collections.abc import Iterator
+from typing import Any, NamedTuple
 
 import harness
 from harness import TOP
 
-# What a server did: a write on the journal ("pwrite"), a flush that has ended ("fdatasync"), or an answer ("send").
-Event = collections.namedtuple("Event", "name at data")
+
+class Event(NamedTuple):
+    """What a server did: a write on the journal ("pwrite"), a flush that has ended ("fdatasync"), or an answer ("send")."""
+
+    name: str
+    at: int
+    data: bytes
+
 
 # Notes each write before it is made, each flush behind its end, and each answer before it is sent, in the file with the
 # descriptor NOTED: an image of the disk or an answer is never noted too late. Kills the process just before the call of this
@@ -77,7 +84,7 @@ NAMES = {"w": "pwrite", "f": "fdatasync", "s": "send"}
 class Libraries:
     """The two libraries, built in a folder."""
 
-    def __init__(self, folder):
+    def __init__(self, folder: str | pathlib.Path) -> None:
         self.words = [str(harness.library(pathlib.Path(folder), name, text)) for name, text in (
             ("note", LIBRARY), ("slow", (TOP / "bench" / "slow_flushes.c").read_text()))]
 
@@ -85,19 +92,19 @@ class Libraries:
 class Notes:
     """What one server is noted to do."""
 
-    def __init__(self, libraries, delay, kill_at=0):
+    def __init__(self, libraries: Libraries, delay: int, kill_at: int = 0) -> None:
         """Its flushes take so many microseconds more. It is killed before the call of that number, from 1."""
         self.file = tempfile.TemporaryFile("a+b")
         more = {"LD_PRELOAD": ":".join(libraries.words), "NOTED": self.file.fileno(), "KILL_AT": kill_at, "FLUSH_DELAY": delay}
-        self.options = {"env": {**os.environ, **{name: str(value) for name, value in more.items()}},
+        self.options: dict[str, Any] = {"env": {**os.environ, **{name: str(value) for name, value in more.items()}},
                         "pass_fds": [self.file.fileno()]}
 
-    def events(self):
+    def events(self) -> Iterator[Event]:
         """What it did, in order."""
         self.file.seek(0)
         for line in self.file.read().decode().splitlines():
             name, at, digits = line.split(" ")
             yield Event(NAMES[name], int(at), bytes.fromhex(digits))
 
-    def close(self):
+    def close(self) -> None:
         self.file.close()

@@ -16,35 +16,46 @@ import script_help
 
 
 @functools.cache
-def made_twice():
+def made_twice() -> tuple[pathlib.Path, tuple[pathlib.Path, str], tuple[pathlib.Path, str]]:
     """The folder where the packages of this tree are made twice, side by side, and unpacked; the station's ones, each with
     what was told. The second ones are made by somebody with another clock, another language and other rights for files."""
     room = tempfile.TemporaryDirectory(prefix="packaged-")
     atexit.register(room.cleanup)
     folder = pathlib.Path(room.name)
     with concurrent.futures.ThreadPoolExecutor() as side_by_side:
-        both = [making.result() for making in (
+        first, second = [making.result() for making in (
             side_by_side.submit(debs.make, folder / "made"),
             side_by_side.submit(debs.make, folder / "again", 0o077, TZ="Pacific/Auckland", LC_ALL="C", LANGUAGE="de"))]
-    subprocess.run(["dpkg-deb", "--extract", both[0][0], folder / "tree"], check=True)
-    subprocess.run(["dpkg-deb", "--extract", debs.of_network(both[0][0]), folder / "network"], check=True)
-    return folder, *both
+    subprocess.run(["dpkg-deb", "--extract", first[0], folder / "tree"], check=True)
+    subprocess.run(["dpkg-deb", "--extract", debs.of_network(first[0]), folder / "network"], check=True)
+    return folder, first, second
 
 
 class Package(harness.ProgramTest):
     """The packages, made twice and unpacked."""
 
+    room: pathlib.Path
+    package: pathlib.Path
+    told: str
+    again: pathlib.Path
+    tree: pathlib.Path
+    network: pathlib.Path
+    help: script_help.Help
+    gate: script_help.Help
+    share: pathlib.Path
+    pages: pathlib.Path
+
     @classmethod
-    def setUpClass(cls):
+    def setUpClass(cls) -> None:
         super().setUpClass()
-        if debs.lacking():
-            raise unittest.SkipTest(debs.lacking())
+        if lacking := debs.lacking():
+            raise unittest.SkipTest(lacking)
         cls.room, (cls.package, cls.told), (cls.again, _) = made_twice()
         cls.tree, cls.network = cls.room / "tree", cls.room / "network"
         cls.help, cls.gate = (script_help.of(cls.tree / "usr" / "bin" / name) for name in ("bovtrila", "gate_send"))
         cls.share, cls.pages = cls.tree / "usr" / "share" / "bovtrila", cls.tree / "usr" / "share" / "doc" / "bovtrila"
 
-    def check_manual(self, folder):
+    def check_manual(self, folder: pathlib.Path) -> None:
         """man and mandoc have nothing to say of the manual pages of a folder."""
         if not (shutil.which("man") and shutil.which("mandoc")):
             self.skipTest("manual pages are looked at by man and mandoc (man-db, mandoc)")

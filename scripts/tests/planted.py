@@ -1,6 +1,8 @@
 """A server over the reference model of the station, for the tests that plant faults: in its protocol, and in its fares."""
+import socket
 import struct
 import threading
+from collections.abc import Collection
 
 import model
 import wire
@@ -12,20 +14,21 @@ class Planted:
     is right. It takes its rules from scripts/model.py as it stands: a test that replaces a rule there gets a server
     with that rule."""
 
-    def __init__(self, flaw=None, server="example"):
+    def __init__(self, flaw: str | None = None, server: str = "example") -> None:
         self.flaw, self.lock = flaw, threading.Lock()
         self.described = next(station for station in wire.vectors() if station.name == server)
         self.station = self.described.model()
-        self.whole, self.shown = None, None
+        self.whole: list[bytes] | None = None
+        self.shown: model.Station | None = None
         # A test may put another serve in its place.
         self.door = Door(lambda connection: self.serve(connection))
         self.text = self.door.text
 
-    def end(self):
+    def end(self) -> None:
         """Takes no connection any more."""
         self.door.shut()
 
-    def lose(self, lost, tells_all=False):
+    def lose(self, lost: Collection[int], tells_all: bool = False) -> None:
         """Begins anew with what it had when this was called first, but for the touches of these places, as a server
         that was started again. Where it tells all, it answers enquiries as if it had lost none."""
         self.whole = self.whole or list(self.station.history)
@@ -36,12 +39,13 @@ class Planted:
                 self.station.answer(frame)
         self.shown = shown if tells_all else None
 
-    def answer(self, frame):
+    def answer(self, frame: bytes) -> bytes:
         with self.lock:
             if self.flaw == "judges repeats again":
                 self.station.named.clear()
             elif self.flaw == "takes a conflict for a repeat" and wire.is_touch(frame):
-                first = self.station.named.get(struct.unpack(">HI", frame[3:9]))
+                gate, number = struct.unpack(">HI", frame[3:9])
+                first = self.station.named.get((gate, number))
                 if first:
                     return first[1]
             elif self.flaw == "records a table that is not there" and frame[2] == model.REVISE:
@@ -51,18 +55,19 @@ class Planted:
                                     len(self.station.history) - 1)
             return (self.shown if self.shown and frame[2] == model.ENQUIRE else self.station).answer(frame)
 
-    def serve(self, connection):
+    def serve(self, connection: socket.socket) -> None:
         held = b""
         with connection:
             try:
                 while data := connection.recv(512):
-                    held = self.answer_all(connection, held + data)
-                    if held is None:
+                    left = self.answer_all(connection, held + data)
+                    if left is None:
                         return
+                    held = left
             except OSError:
                 pass
 
-    def answer_all(self, connection, held):
+    def answer_all(self, connection: socket.socket, held: bytes) -> bytes | None:
         """Answers the whole requests of these bytes: those left, or None where the session ends."""
         while True:
             is_begun = any(held.startswith(whole[: len(held)]) for whole in (

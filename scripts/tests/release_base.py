@@ -52,21 +52,21 @@ rm -r "$tree"
 """
 
 
-def git(top, *words):
+def git(top: pathlib.Path, *words: str) -> str:
     """What git writes, whatever this machine's users have configured."""
     env = {**os.environ, "GIT_CONFIG_GLOBAL": "/dev/null", "GIT_CONFIG_NOSYSTEM": "1"}
     done = subprocess.run(["git", *words], cwd=top, env=env, capture_output=True, text=True, check=True)
     return done.stdout.strip()
 
 
-def commit(top):
+def commit(top: pathlib.Path) -> None:
     """Commits all that the working tree has."""
     git(top, "add", "--all")
     git(top, "commit", "--quiet", "--message", "Change")
 
 
 @functools.cache
-def original():
+def original() -> pathlib.Path:
     """A repository with built stand-ins and a clean working tree, and beside it the tools."""
     room = tempfile.TemporaryDirectory(prefix="releases-")
     atexit.register(room.cleanup)
@@ -80,7 +80,7 @@ def original():
         write(tools / name, f"#!/bin/sh\n{line}\n")
     write(top / "crates" / "tap_server" / "out" / "tap_server", SERVER)
     (top / "crates" / "gate_send" / "out").mkdir()
-    shutil.copy(shutil.which("true"), top / "crates" / "gate_send" / "out" / "gate_send")
+    shutil.copy(shutil.which("true") or "", top / "crates" / "gate_send" / "out" / "gate_send")
     subprocess.run([sys.executable, "-B", "-c", NOTES], cwd=top / "scripts", check=True)
     git(top, "init", "--quiet", "--initial-branch", "main")
     git(top, "config", "user.name", "Nobody")
@@ -89,7 +89,7 @@ def original():
     return pathlib.Path(room.name)
 
 
-def write(file, text):
+def write(file: pathlib.Path, text: str) -> None:
     """Writes a script."""
     file.parent.mkdir(exist_ok=True)
     file.write_text(text)
@@ -101,7 +101,7 @@ class ReleaseTest(unittest.TestCase):
 
     PACKAGE = PACKAGE
 
-    def setUp(self):
+    def setUp(self) -> None:
         room = tempfile.TemporaryDirectory(prefix="releases-")
         self.addCleanup(room.cleanup)
         self.room = pathlib.Path(room.name)
@@ -111,36 +111,36 @@ class ReleaseTest(unittest.TestCase):
         if self.PACKAGE:
             self.package_does("true")
 
-    def package_does(self, line):
+    def package_does(self, line: str) -> None:
         """Has the stand-in of scripts/package run this line as well."""
         write(self.top / "scripts" / "package", PACKAGE.replace("# DO", line))
         commit(self.top)
 
-    def start(self, *words):
+    def start(self, *words: str | pathlib.Path) -> subprocess.Popen[str]:
         env = {"PATH": f"{self.room}/tools:/usr/sbin:/usr/bin:/bin", "HOME": str(self.room), "TZ": "UTC",
                "GIT_CONFIG_NOSYSTEM": "1"}
         return subprocess.Popen([self.top / "scripts" / "release", *words], env=env, text=True, stdout=subprocess.PIPE,
                                 stderr=subprocess.PIPE)
 
-    def release(self, *words):
+    def release(self, *words: str | pathlib.Path) -> tuple[int, str, str]:
         """The status, the output and standard error of a run."""
         started = self.start(*words)
         out, err = started.communicate(timeout=debs.TIME)
         return started.returncode, out, err
 
-    def traces(self):
+    def traces(self) -> tuple[str, list[list[str]]]:
         """What a release would leave: tags, and entries of the folders that it may be put into."""
         places = (self.top, self.top / "out", self.to.parent, self.room)
         return git(self.top, "tag"), [sorted(entry.name for entry in place.glob("*")) for place in places]
 
-    def assert_refused(self, *lines, words=(VERSION,)):
+    def assert_refused(self, *lines: str, words: tuple[str, ...] = (VERSION,)) -> None:
         """It reports these faults and no others, and leaves no trace."""
         before = self.traces()
         status, out, err = self.release(*words, self.to)
         self.assertEqual((status, out, err.splitlines()), (1, "", [f"release: {line}" for line in lines]))
         self.assertEqual(self.traces(), before)
 
-    def assert_made(self, *words):
+    def assert_made(self, *words: str | pathlib.Path) -> None:
         """It makes a release without a word of a fault."""
         status, out, err = self.release(*words, self.to)
         self.assertEqual((status, out, err), (0, f"{self.to}\n", ""))

@@ -1,8 +1,11 @@
 """A server that runs, and a gate's connection to it: for the scripts that serve over TCP."""
+import os
 import pathlib
 import socket
 import struct
 import subprocess
+from collections.abc import Iterable
+from typing import Any, Self
 
 from harness import EXAMPLE, PROGRAM, TIME, first_line
 
@@ -10,18 +13,22 @@ from harness import EXAMPLE, PROGRAM, TIME, first_line
 class Server:
     """A running server on a free port, with its journal in the folder."""
 
-    def __init__(self, folder, lines=1, connections=1, cards=10, capacity=1000, table=EXAMPLE, more=(), revised=(),
-                 listen="127.0.0.1:0", **options):
+    def __init__(self, folder: str | os.PathLike[str], lines: int = 1, connections: int | None = 1, cards: int = 10,
+                 capacity: int = 1000, table: str | os.PathLike[str] = EXAMPLE, more: Iterable[str] = (),
+                 revised: Iterable[str | os.PathLike[str]] = (),
+                 listen: str = "127.0.0.1:0", **options: Any) -> None:
         self.journal = pathlib.Path(folder) / "journal"
         words = ["serve", "--table", str(table), "--journal", str(self.journal), "--cards", str(cards),
                  "--capacity", str(capacity), "--listen", listen, "--lines", str(lines)]
         if connections is not None:
             words += ["--connections", str(connections)]
         words += [*more, *map(str, revised)]
-        self.process = subprocess.Popen([PROGRAM, *words], stdin=subprocess.DEVNULL, stdout=subprocess.PIPE,
+        self.process: subprocess.Popen[bytes] = subprocess.Popen([PROGRAM, *words], stdin=subprocess.DEVNULL, stdout=subprocess.PIPE,
                                         stderr=subprocess.PIPE, **options)
         # The notes that it began with.
-        self.notes, said = [], first_line(self.process.stderr)
+        self.notes: list[str] = []
+        assert self.process.stderr, "a pipe"
+        said = first_line(self.process.stderr)
         while said.startswith("note: "):
             self.notes.append(said.rstrip("\n"))
             said = first_line(self.process.stderr)
@@ -30,15 +37,15 @@ class Server:
         host, _, port = said.split()[1].rpartition(":")
         self.address = host, int(port)
 
-    def connect(self):
+    def connect(self) -> "Gate":
         return Gate(self.address)
 
-    def end(self):
+    def end(self) -> tuple[int, list[str], str]:
         """The status and the output, once all connections were served."""
         out, err = self.process.communicate(timeout=TIME)
         return self.process.returncode, out.decode().split("\n")[:-1], err.decode()
 
-    def kill(self):
+    def kill(self) -> None:
         self.process.kill()
         self.process.communicate(timeout=TIME)
 
@@ -46,24 +53,24 @@ class Server:
 class Gate:
     """A gate's connection."""
 
-    def __init__(self, address):
+    def __init__(self, address: tuple[str, int]) -> None:
         self.socket = socket.create_connection(address, TIME)
 
-    def __enter__(self):
+    def __enter__(self) -> Self:
         return self
 
-    def __exit__(self, *_):
+    def __exit__(self, *_: object) -> None:
         self.socket.close()
 
-    def send(self, *frames):
+    def send(self, *frames: bytes) -> None:
         self.socket.sendall(b"".join(frames))
 
-    def take(self):
+    def take(self) -> bytes:
         """The next answer's frame, or what came of it before the connection ended."""
         head = self.read(2)
         return head + self.read(struct.unpack(">H", head)[0]) if len(head) == 2 else head
 
-    def read(self, size):
+    def read(self, size: int) -> bytes:
         taken = b""
         while len(taken) < size:
             piece = self.socket.recv(size - len(taken))
@@ -72,6 +79,6 @@ class Gate:
             taken += piece
         return taken
 
-    def ask(self, frame):
+    def ask(self, frame: bytes) -> bytes:
         self.send(frame)
         return self.take()

@@ -7,11 +7,16 @@ import struct
 import subprocess
 import tempfile
 import threading
+from collections.abc import Iterable, Sequence
+from typing import Any, TypeAlias
 
 import harness
 import model
 from harness import CRATES, EXAMPLE, PROGRAM, TIME
 from running import Server
+
+# A run's status, the lines that it printed, and what stands on standard error.
+Ended: TypeAlias = tuple[int, list[str], str]
 
 GATE_SEND = CRATES / "gate_send" / "out" / "gate_send"
 # A card's first morning, and what it is answered: docs/PROTOCOL.md, "Requests and their answers".
@@ -26,45 +31,45 @@ class SendTest(harness.ProgramTest):
     """A folder with a gate's file and a station's journal."""
 
     # Where the folder is made: where temporary files are, unless another place is named.
-    ROOM = None
+    ROOM: str | None = None
 
     @classmethod
-    def setUpClass(cls):
+    def setUpClass(cls) -> None:
         super().setUpClass()
         if not GATE_SEND.is_file():
             raise FileNotFoundError(f"{GATE_SEND} isn't there: run 'rt run' in crates/gate_send, or 'rt ci'")
 
-    def setUp(self):
+    def setUp(self) -> None:
         room = tempfile.TemporaryDirectory(prefix="gate-sends-", dir=self.ROOM)
         self.addCleanup(room.cleanup)
         self.folder = pathlib.Path(room.name)
         self.file = self.folder / "gate7.touches"
 
-    def station(self, listen="127.0.0.1:0", **options):
+    def station(self, listen: str = "127.0.0.1:0", **options: Any) -> Server:
         """A station on this address, with its journal in the folder."""
         server = Server(self.folder, connections=None, lines=4, listen=listen, **options)
         self.addCleanup(server.kill)
         return server
 
-    def words(self, *more, gate=7, timeout=1000):
+    def words(self, *more: object, gate: int = 7, timeout: int = 1000) -> list[str]:
         return [str(GATE_SEND), "--gate", str(gate), "--file", str(self.file), "--timeout", str(timeout), "--pause", "5",
                 *map(str, more)]
 
-    def send(self, lines, *more, gate=7, timeout=1000):
+    def send(self, lines: Iterable[str], *more: object, gate: int = 7, timeout: int = 1000) -> Ended:
         """A run on these lines: its status, the lines that it printed, and what stands on standard error."""
         given = "".join(f"{line}\n" for line in lines)
         words = self.words(*more, gate=gate, timeout=timeout)
         done = subprocess.run(words, input=given, capture_output=True, text=True, timeout=TIME)
         return done.returncode, done.stdout.splitlines(), done.stderr
 
-    def assertFault(self, ended, fault, out=()):
+    def assertFault(self, ended: Ended, fault: str, out: Iterable[str] = ()) -> list[str]:
         status, said, err = ended
         self.assertEqual((status, said, err.splitlines()[0] if err else ""), (1, list(out), fault), err)
         behind = err.splitlines()[1:]
         self.assertTrue(all(line.startswith("  ") for line in behind), err)
         return behind
 
-    def history(self):
+    def history(self) -> list[str]:
         """The station's history, each row from the field of the gate on."""
         journal = self.folder / "copied"
         shutil.copy(self.folder / "journal", journal)
@@ -72,7 +77,7 @@ class SendTest(harness.ProgramTest):
                               text=True, timeout=TIME, check=True)
         return [row.split(",", 3)[3] for row in done.stdout.splitlines()[1:]]
 
-    def kept(self):
+    def kept(self) -> list[bytes]:
         """The frames of the touches in the gate's file."""
         return touches_in(self.file.read_bytes(), tag(7)) or [] if self.file.is_file() else []
 
@@ -80,13 +85,14 @@ class SendTest(harness.ProgramTest):
 class Scripted:
     """A station that answers each request by the next of some bytes, and hangs up where these are None."""
 
-    def __init__(self, answers):
-        self.answers, self.requests = list(answers), []
+    def __init__(self, answers: Iterable[bytes | None]) -> None:
+        self.answers = list(answers)
+        self.requests: list[bytes] = []
         self.listening = socket.create_server(("127.0.0.1", 0))
         self.address = f"127.0.0.1:{self.listening.getsockname()[1]}"
         threading.Thread(target=self.serve, daemon=True).start()
 
-    def serve(self):
+    def serve(self) -> None:
         while self.answers:
             gate, _ = self.listening.accept()
             with gate:
@@ -102,18 +108,19 @@ class Scripted:
         self.listening.close()
 
 
-def reply(number, verdict, change, balance, gate=7):
+def reply(number: int, verdict: int, change: int, balance: int, gate: int = 7) -> bytes:
     return model.framed(">BHIBiq", model.REPLY, gate, number, verdict, change, balance)
 
 
-def touches_in(data, digest):
+def touches_in(data: bytes, digest: bytes) -> list[bytes] | None:
     """The frames of the touches in a journal with this digest, or in a gate's file with it as its tag, read by the format of
     docs/JOURNAL.md; `None` where these bytes are none."""
     if len(data) < 65 or data[0] != 0xA5:
         return None
     if data[1:9] != b"OYSTERJ2" or data[17:49] != digest:
         raise AssertionError(f"another header: {data[:64].hex()}")
-    found, capacity = [], int.from_bytes(data[9:13], "big")
+    found: list[bytes] = []
+    capacity = int.from_bytes(data[9:13], "big")
     sizes = {model.ISSUE: 15, model.TOP_UP: 19, model.ENTER: 17, model.LEAVE: 17}
     while len(found) < capacity:
         slot = data[64 + 64 * len(found):][:64]
@@ -126,28 +133,28 @@ def touches_in(data, digest):
     return found
 
 
-def tag(gate):
+def tag(gate: int) -> bytes:
     """What stands in a gate's file in the place of a digest (docs/JOURNAL.md, "A gate's file")."""
     return b"touches of one gate, by number" + gate.to_bytes(2, "big")
 
 
-def file_of(frames, capacity, gate):
+def file_of(frames: Sequence[bytes], capacity: int, gate: int) -> bytes:
     """The bytes of a gate's file with the touches of these frames."""
     content = model.journal_of(frames, capacity, 1, tag(gate))
     return content if len(frames) < capacity else content[:-1]
 
 
-def address_of(server):
+def address_of(server: Server) -> str:
     host, port = server.address
     return f"{host}:{port}"
 
 
-def free_address():
+def free_address() -> str:
     """An address on which nobody listens."""
     return f"127.0.0.1:{harness.free_port()}"
 
 
-def town(count):
+def town(count: int) -> tuple[list[str], list[bytes], list[str]]:
     """So many touches, four for each card as on the morning of the page: their lines, their frames, and what they are
     answered."""
     acts = ["issue {}", "top-up {} 2000", "in {} 2", "out {} 1"]

@@ -10,6 +10,8 @@ import socket
 import subprocess
 import threading
 import time
+from collections.abc import Iterator
+from typing import Any
 
 from harness import CRATES, PROGRAM, TIME, TOP, free_port
 
@@ -35,48 +37,49 @@ ASKED, TYPED = "Type yes: ", "yes\n"
 class Command:
     """A command of a page, and the lines that stand behind it there."""
 
-    def __init__(self, page, line, text):
+    def __init__(self, page: str, line: int, text: str) -> None:
         self.page, self.line = page, line
         lines = text.split("\n")
         size = next(place for place, each in enumerate(lines, 1) if not each.endswith("\\"))
         self.text, self.shown = "\n".join(lines[:size]), "\n".join(lines[size:])
 
-    def __str__(self):
+    def __str__(self) -> str:
         return f"{self.page}, line {self.line}: {self.text}"
 
-    def is_serving(self):
+    def is_serving(self) -> bool:
         """Whether it is a server in a terminal of its own, which goes on while other commands are given."""
         return " serve " in self.text and not self.text.endswith("&")
 
 
-def blocks(page, text=None):
+def blocks(page: str, text: str | None = None) -> Iterator[list[Command]]:
     """The blocks of a page that have commands, each a list of them."""
     text = (TOP / page).read_text() if text is None else text
     for block in BLOCK.finditer(text):
-        line, found = text.count("\n", 0, block.start()) + 2, []
+        line = text.count("\n", 0, block.start()) + 2
+        found: list[Command] = []
         for part in re.split(r"^\$ ", re.sub(f"(?m)^{block['indent']}", "", block["text"]), flags=re.M)[1:]:
             found.append(Command(page, line, part))
             line += part.count("\n")
         yield found
 
 
-def plain(text):
+def plain(text: str) -> str:
     """A text without what differs from run to run."""
     for _, pattern, instead in DIFFERS:
         text = pattern.sub(instead, text)
     return text
 
 
-def free_ports(count):
+def free_ports(count: int) -> list[str]:
     """So many ports that nobody listens on."""
-    found = set()
+    found: set[str] = set()
     while len(found) < count:
         found.add(str(free_port()))
     return list(found)
 
 
 @contextlib.contextmanager
-def limited(process):
+def limited(process: subprocess.Popen[Any]) -> Iterator[None]:
     """Kills a process, and those of its session, where what is done meanwhile takes too long."""
     timer = threading.Timer(TIME, os.killpg, (process.pid, signal.SIGKILL))
     timer.start()
@@ -92,7 +95,7 @@ class Shell:
     # The folder below its own in which commands are given.
     HOME = "."
 
-    def __init__(self, folder, **more):
+    def __init__(self, folder: str | pathlib.Path, **more: object) -> None:
         self.folder, self.mark = pathlib.Path(folder), secrets.token_hex(8)
         self.home = self.folder / self.HOME
         self.home.mkdir(exist_ok=True)
@@ -116,30 +119,32 @@ class Shell:
         self.process = subprocess.Popen(["bash", "--norc"], cwd=self.home, env=self.env, stdin=subprocess.PIPE,
                                         stdout=subprocess.PIPE, stderr=subprocess.STDOUT, text=True,
                                         start_new_session=True)
+        assert self.process.stdin and self.process.stdout, "pipes"
+        self.given, self.printed = self.process.stdin, self.process.stdout
         self.tell("shopt -s expand_aliases; trap 'kill $(jobs -p) 2>/dev/null; wait' EXIT; true")
 
-    def end(self):
+    def end(self) -> None:
         """Ends the shell, and the servers with it."""
         with limited(self.process), contextlib.suppress(BrokenPipeError):
-            self.process.stdin.close()
+            self.given.close()
             self.process.wait()
-        self.process.stdout.close()
+        self.printed.close()
 
-    def tell(self, text):
+    def tell(self, text: str) -> str:
         """Gives the shell a command, and waits for its output: both streams, as a terminal shows them."""
         (self.folder / ".command").write_text(text + "\n")
-        self.process.stdin.write(f". {self.folder}/.command </dev/null; s=$?; echo {self.mark}; (exit $s)\n")
-        self.process.stdin.flush()
+        self.given.write(f". {self.folder}/.command </dev/null; s=$?; echo {self.mark}; (exit $s)\n")
+        self.given.flush()
         said = ""
         with limited(self.process):
             while not said.endswith(self.mark + "\n"):
-                line = self.process.stdout.readline()
+                line = self.printed.readline()
                 if not line:
                     raise AssertionError(f"the shell has ended, or took too long: {text}\n{said}")
                 said += line
         return said.removesuffix(self.mark + "\n")
 
-    def run(self, command):
+    def run(self, command: Command) -> str:
         """Runs a command of a page, and gives what was said, with the page's ports."""
         text = command.text
         for name, instead in self.names().items():
@@ -156,11 +161,11 @@ class Shell:
             said = said.replace(instead, name)
         return said
 
-    def names(self):
+    def names(self) -> dict[str, str]:
         """The names of a page that have others here: a free port is used in the place of each."""
         return {f"127.0.0.1:{port}": f"127.0.0.1:{free}" for port, free in self.ports.items()}
 
-    def serve(self, text, lines):
+    def serve(self, text: str, lines: int) -> str:
         """Starts a server, and waits until it has said so many lines, or has ended."""
         file = self.folder / ".served"
         file.unlink(missing_ok=True)
@@ -174,7 +179,7 @@ class Shell:
         time.sleep(0.2)
         return file.read_text()
 
-    def type(self, text):
+    def type(self, text: str) -> str:
         """Runs a command at a terminal, and types behind what is asked there."""
         ours, its = pty.openpty()
         process = subprocess.Popen(["bash", "-c", text], cwd=self.home, env=self.env, stdin=its, stdout=its,
@@ -190,7 +195,7 @@ class Shell:
         process.wait(TIME)
         return said
 
-    def wait_for_listeners(self):
+    def wait_for_listeners(self) -> None:
         """Waits until each port of the last command takes a connection."""
         begun, text = time.monotonic(), (self.folder / ".command").read_text()
         for port in self.ports.values():

@@ -2,6 +2,7 @@
 /usr/share/bovtrila below a folder, and stand-ins for sudo and systemctl, so that a page's commands run without root."""
 import contextlib
 import os
+import pathlib
 import signal
 
 import installed
@@ -18,7 +19,7 @@ class StationShell(shown.Shell):
 
     HOME = "home"
 
-    def __init__(self, folder, **more):
+    def __init__(self, folder: pathlib.Path, **more: object) -> None:
         self.machine = folder / "machine"
         for place in PLACES:
             (self.machine / place.lstrip("/")).mkdir(parents=True)
@@ -31,11 +32,11 @@ class StationShell(shown.Shell):
         for name in ("sudo", "systemctl", *(f"bovtrila-{name}" for name in installed.commands())):
             (folder / "bin" / name).symlink_to(STAND_INS)
 
-    def names(self):
+    def names(self) -> dict[str, str]:
         """The machine's folders have their names in the page, and others here."""
         return super().names() | {place: f"{self.machine}{place}" for place in PLACES}
 
-    def end(self):
+    def end(self) -> None:
         """Ends the shell, and the station's server with it."""
         super().end()
         with contextlib.suppress(FileNotFoundError, ProcessLookupError):

@@ -14,7 +14,7 @@ PAGE, FOLDER = "docs/START.md", "/root/tutorial"
 AGO = re.compile(r"[\d,]+ days ago")
 
 
-def plain(text):
+def plain(text: str) -> str:
     """A text without what differs from day to day."""
     return AGO.sub("DAYS ago", shown.plain(text))
 
@@ -22,9 +22,11 @@ def plain(text):
 class Tutorial(harness.ProgramTest):
     """A machine that has the package, and `sudo`, which runs a command as it is."""
 
-    def setUp(self):
-        if machine.lacking():
-            self.skipTest(machine.lacking())
+    machine: machine.Machine
+
+    def setUp(self) -> None:
+        if lacking := machine.lacking():
+            self.skipTest(lacking)
         room = tempfile.TemporaryDirectory(prefix="tutorial-")
         self.addCleanup(room.cleanup)
         package, _ = debs.make(pathlib.Path(room.name))
@@ -39,7 +41,7 @@ class Tutorial(harness.ProgramTest):
         self.machine.run("mkdir", FOLDER)
         self.assertEqual(self.machine.run("apt-get", "install", f"/packages/{package.name}").returncode, 0)
 
-    def said(self, command):
+    def said(self, command: shown.Command) -> tuple[str, str]:
         """What the machine prints for a command, and what the page shows, without what is typed."""
         text, expected = command.text, command.shown
         if shown.ASKED in expected:
@@ -48,7 +50,7 @@ class Tutorial(harness.ProgramTest):
         done = self.machine.run("bash", "-c", f"cd {FOLDER}; {{ {text}\n}} 2>&1")
         return plain(done.stdout), plain(expected)
 
-    def test_a_newcomer_gets_what_the_page_shows(self):
+    def test_a_newcomer_gets_what_the_page_shows(self) -> None:
         for block in shown.blocks(PAGE):
             for command in block:
                 with self.subTest(str(command)):

@@ -1,4 +1,5 @@
 """Runs of scripts/next-journal that nobody attends: for scripts/tests/full-journals."""
+import datetime
 import importlib.machinery
 import importlib.util
 import resource
@@ -7,6 +8,8 @@ import signal
 import subprocess
 import time
 import unittest
+from collections.abc import Sequence
+from typing import Any
 from unittest import mock
 
 import due
@@ -15,8 +18,8 @@ import killing
 import model
 import serving
 import wire
-from full_station import FAR, FIRST, MORNING, RUN, SCRIPT, Stations
-from harness import PROGRAM, TIME
+from full_station import FAR, FIRST, MORNING, RUN, SCRIPT, Station, Stations, Word
+from harness import PROGRAM
 
 
 # What `balances` prints of two cards, of which the second one owes 7.10 pounds, and the sums of the requests that carry it.
@@ -28,7 +31,7 @@ CARRYING = {"balances": 940, "carried": 1500, "left": 150, "owed": 710}
 class Sums(unittest.TestCase):
     """The sums that a run compares before it uses a new journal."""
 
-    def test_printed_sums_are_those_of_their_lines(self):
+    def test_printed_sums_are_those_of_their_lines(self) -> None:
         handover.check_printed(SUMS, TABLE)
         handover.check_printed("note: 3 open slots behind the end: verify ends with status 3\n" + SUMS, TABLE)
         for line in SUMS.splitlines()[:4]:
@@ -37,7 +40,7 @@ class Sums(unittest.TestCase):
                 with self.subTest(other), self.assertRaisesRegex(wire.Wrong, f"balances: {name} is "):
                     handover.check_printed(SUMS.replace(line, other), TABLE)
 
-    def test_the_requests_carry_what_the_old_journal_holds(self):
+    def test_the_requests_carry_what_the_old_journal_holds(self) -> None:
         held = handover.balances_of(TABLE)
         handover.check_sums(held, CARRYING)
         for name in CARRYING:
@@ -48,7 +51,7 @@ class Sums(unittest.TestCase):
 class Unattended(Stations):
     """Runs that nobody attends."""
 
-    def assert_back(self, station, status, err, said):
+    def assert_back(self, station: Station, status: int, err: str, said: str) -> None:
         """The run has failed with one line, and the old server runs as before."""
         self.assertEqual((status, err.count("\n"), said in err), (1, 1, True), err)
         self.assertEqual(serving.words_of(station.config)["journal"], "station.journal")
@@ -57,7 +60,7 @@ class Unattended(Stations):
         failed = (station.folder / "next-journal.failed").read_text()
         self.assertEqual(failed.partition(" ")[2], err.removeprefix("next-journal: "))
 
-    def test_below_nothing_is_changed(self):
+    def test_below_nothing_is_changed(self) -> None:
         station = self.station(capacity=20)
         station.start()
         before = station.tree()
@@ -68,7 +71,7 @@ class Unattended(Stations):
         self.assertEqual(station.alone(percent="90")[0], 0)
         self.assertEqual(serving.words_of(station.config)["journal"], "next.journal")
 
-    def test_above_a_new_journal_follows(self):
+    def test_above_a_new_journal_follows(self) -> None:
         station = self.station()
         station.start()
         kept = model.touch(model.TOP_UP, 7, 900, 5, 300, MORNING + 900)
@@ -88,22 +91,23 @@ class Unattended(Stations):
         self.assertEqual((status, out), (0, "next.journal is 0.2 % full, with 10 of 5000 touches: a new journal follows "
                                          "from 90 % on\n"))
 
-    def test_a_failure_leaves_the_old_server_running(self):
+    def test_a_failure_leaves_the_old_server_running(self) -> None:
         station = self.station()
         station.start()
         starts = station.other_start
         falsified = station.other_program(f"{PROGRAM} \"$@\" | sed 's/^1,outside,1650,1650/1,outside,1640,1640/; "
                                           "s/^5,outside,0,0/5,outside,10,10/'")
         again = "; the server runs on station.journal again\n"
-        for more, options, said in (
+        limits: dict[str, Any] = {"preexec_fn": lambda: resource.setrlimit(resource.RLIMIT_FSIZE, (10**6, 10**6))}
+        runs: tuple[tuple[Sequence[Word], dict[str, Any], str], ...] = (
                 (["--stop", "false"], {}, "'false' failed: stop the server, and name --stop ''" + again),
                 (["--capacity", "9"], {}, "9 requests leave no room in a journal of 9 touches"),
                 (["--capacity", "10"], {}, "9 requests fill a journal of 10 touches to 90 % or more"),
-                (["--capacity", "1000000"], {"preexec_fn": lambda: resource.setrlimit(resource.RLIMIT_FSIZE, (10**6, 10**6))},
-                 "File too large" + again),
+                (["--capacity", "1000000"], limits, "File too large" + again),
                 (falsified, {}, "card 1 held 1650, and holds 1640 in the new journal; card 5 held 0, and holds 10"),
                 (starts("exit 7"), {}, "failed, so no server has next.journal"),
-                ((*starts("exit 0"), "--patience", "3"), {}, "the server of next.journal at")):
+                ((*starts("exit 0"), "--patience", "3"), {}, "the server of next.journal at"))
+        for more, options, said in runs:
             with self.subTest(said):
                 status, _, err = station.alone(*more, **options)
                 self.assert_back(station, status, err, said)
@@ -118,7 +122,7 @@ class Unattended(Stations):
         self.assert_carried(station, 9)
         self.assertFalse((station.folder / "next-journal.failed").exists())
 
-    def test_by_hand_a_failure_leaves_it_running_too(self):
+    def test_by_hand_a_failure_leaves_it_running_too(self) -> None:
         station = self.station()
         station.start()
         (station.folder / "prices.toml").rename(station.folder / "aside")
@@ -130,20 +134,21 @@ class Unattended(Stations):
         self.assertEqual(station.run("--start", start)[0], 0)
         self.assert_carried(station)
 
-    def test_a_run_that_is_ended_leaves_it_running(self):
+    def test_a_run_that_is_ended_leaves_it_running(self) -> None:
         """By a signal, while the balances are compared."""
         station = self.station()
         station.start()
         words = ["--when-above", "90", *station.words[1:], *station.other_program("exec sleep 600")]
         with subprocess.Popen([str(word) for word in (SCRIPT, *words)], stdout=subprocess.PIPE, stderr=subprocess.PIPE,
                               text=True) as running:
+            assert running.stdout, "a pipe"
             while not running.stdout.readline().startswith("step 7"):
                 self.assertIsNone(running.poll())
             running.terminate()
             _, err = running.communicate(timeout=RUN)
         self.assert_back(station, running.returncode, err, "ended by SIGTERM; the server runs on station.journal again")
 
-    def test_a_touch_that_comes_while_it_is_stopped_gets_its_answer(self):
+    def test_a_touch_that_comes_while_it_is_stopped_gets_its_answer(self) -> None:
         station = self.station(capacity=20)
         station.start()
         lines = station.folder.parent / "lines"
@@ -156,7 +161,7 @@ class Unattended(Stations):
         self.assertEqual(wire.in_words(model.enquiry(5), station.ask(model.enquiry(5))),
                          "card 5 outside; balance 300, after 10 touches")
 
-    def test_a_station_without_a_quiet_time_is_left_alone(self):
+    def test_a_station_without_a_quiet_time_is_left_alone(self) -> None:
         station = self.station(capacity=1000)
         station.start()
         words = ["--when-above", "1", *station.words[1:], "--watch", "30", "--within", "1"]
@@ -167,12 +172,13 @@ class Unattended(Stations):
                 number += 1
                 station.ask(model.touch(model.TOP_UP, 7, number, 5, 1, MORNING + number))
                 time.sleep(0.05)
+            assert running.stderr, "a pipe"
             err = running.stderr.read()
         self.assertEqual(running.returncode, 1)
         self.assertIn("for 1 s there were never 30 s without a touch: choose another hour. Nothing was changed", err)
         self.assertTrue(serving.has_server(station.old))
 
-    def test_the_server_is_stopped_after_a_time_without_a_touch(self):
+    def test_the_server_is_stopped_after_a_time_without_a_touch(self) -> None:
         station, watch, limit = self.station(capacity=20), 3, time.monotonic() + RUN
         station.start()
         stopped = station.folder.parent / "stopped-at"
@@ -194,16 +200,18 @@ class Unattended(Stations):
         self.assertEqual(wire.in_words(model.enquiry(5), station.ask(model.enquiry(5))),
                          "card 5 outside; balance 300, after 10 touches")
 
-    def test_the_time_is_a_minute_if_nobody_attends(self):
+    def test_the_time_is_a_minute_if_nobody_attends(self) -> None:
         loader = importlib.machinery.SourceFileLoader("next_journal", str(SCRIPT))
-        script = importlib.util.module_from_spec(importlib.util.spec_from_loader("next_journal", loader))
+        spec = importlib.util.spec_from_loader("next_journal", loader)
+        assert spec, "a loader of a file makes one"
+        script = importlib.util.module_from_spec(spec)
         loader.exec_module(script)
         for words, seconds in ((["--when-above", "90%"], 60), (["station.journal", "--settled"], 5),
                                (["--when-above", "90%", "--watch", "7"], 7)):
             with self.subTest(words), mock.patch("sys.argv", ["next-journal", *words]):
                 self.assertEqual(script.options().watch, seconds)
 
-    def test_a_touch_that_comes_while_balances_are_calculated_is_carried(self):
+    def test_a_touch_that_comes_while_balances_are_calculated_is_carried(self) -> None:
         station = self.station(capacity=20)
         station.start()
         lines, seen, program = (station.folder.parent / name for name in ("lines", "seen", "program"))
@@ -217,7 +225,7 @@ class Unattended(Stations):
         self.assertEqual(wire.in_words(model.enquiry(5), station.ask(model.enquiry(5))),
                          "card 5 outside; balance 300, after 10 touches")
 
-    def test_a_disk_without_room_is_found_before_the_server_is_stopped(self):
+    def test_a_disk_without_room_is_found_before_the_server_is_stopped(self) -> None:
         """The new journal has a header of 64 bytes, 5000 slots of 64, and a byte; the old one has 18 slots."""
         station, needed = self.station(), 320_065 + 1_217
         station.start()
@@ -229,7 +237,7 @@ class Unattended(Stations):
         self.assertEqual(station.alone(env=self.free(needed))[::2], (0, ""))
         self.assert_carried(station, 9)
 
-    def free(self, count):
+    def free(self, count: int) -> dict[str, str]:
         """The environment in which Python finds so many free bytes on each disk, and more for root alone."""
         folder = self.room / f"free-{count}"
         folder.mkdir()
@@ -237,7 +245,7 @@ class Unattended(Stations):
             f"import os\nos.statvfs = lambda _: os.statvfs_result((4096, 1, 10**12, 10**12, {count}, 0, 0, 0, 0, 255))\n")
         return {"PYTHONPATH": str(folder)}
 
-    def test_a_server_that_could_not_be_started_again_is_started_by_the_next_run(self):
+    def test_a_server_that_could_not_be_started_again_is_started_by_the_next_run(self) -> None:
         station = self.station()
         station.start()
         status, _, err = station.alone("--start", "exit 3", *station.other_program("exit 5"))
@@ -246,20 +254,20 @@ class Unattended(Stations):
         self.assertEqual(station.alone(percent="99")[::2], (0, ""))
         self.assert_carried(station, 9)
 
-    def test_a_server_that_was_stopped_stays_so(self):
+    def test_a_server_that_was_stopped_stays_so(self) -> None:
         station = self.station()
         status, _, err = station.alone(env={"JOURNAL_STREAM": "9:9"})
         self.assertEqual((status, serving.has_server(station.old), err.count("\n")), (1, False, 1))
         # systemd shows this as an error.
         self.assertTrue(err.startswith(f"<3>next-journal: no server answers at {station.listen}, or all its"), err)
 
-    def test_a_server_that_shares_its_journal_is_refused(self):
+    def test_a_server_that_shares_its_journal_is_refused(self) -> None:
         station = self.station()
         station.config.write_text(station.config.read_text() + "standby = yes\n")
         status, _, err = station.alone()
         self.assertEqual((status, "has standby = yes: the other computer would take over" in err), (1, True), err)
 
-    def test_a_new_journal_with_touches_of_gates_stays(self):
+    def test_a_new_journal_with_touches_of_gates_stays(self) -> None:
         """It answered a gate, and then its start was said to have failed."""
         station = self.station()
         station.start()
@@ -279,7 +287,7 @@ class Unattended(Stations):
         self.assertTrue((station.folder / "after-station.journal" / "page").exists())
         self.assertEqual(serving.front_at(station.listen), 10)
 
-    def test_a_run_that_was_cut_off_is_finished_by_the_next(self):
+    def test_a_run_that_was_cut_off_is_finished_by_the_next(self) -> None:
         """Killed before some of its calls that change a disk, start a program or connect."""
         for place in range(2, 300, 12):
             station = self.station()
@@ -297,7 +305,7 @@ class Unattended(Stations):
             shutil.rmtree(station.folder)
         self.assertGreater(place, 50)
 
-    def test_a_run_that_was_cut_off_at_its_very_end_is_finished_too(self):
+    def test_a_run_that_was_cut_off_at_its_very_end_is_finished_too(self) -> None:
         station = self.station()
         station.start()
         self.assertEqual(station.alone()[::2], (0, ""))
@@ -306,22 +314,22 @@ class Unattended(Stations):
         self.assertEqual(station.alone()[::2], (0, ""))
         self.assert_carried(station, 9)
 
-    def test_what_was_begun_by_hand_is_left_to_a_person(self):
+    def test_what_was_begun_by_hand_is_left_to_a_person(self) -> None:
         station = self.station()
         station.start()
         self.assertEqual(station.run("--stop", "false")[0], 1)
         status, _, err = station.alone()
         self.assert_back(station, status, err, "a run that was started by hand isn't finished")
 
-    def test_the_new_journal_has_the_day_in_its_name(self):
-        now = due.datetime.datetime(2026, 3, 1)
+    def test_the_new_journal_has_the_day_in_its_name(self) -> None:
+        now = datetime.datetime(2026, 3, 1)
         for old, new in (("station.journal", "station-20260301.journal"), ("a-20260105.journal", "a-20260301.journal"),
                          ("station-20260301.journal", "station-20260301-2.journal")):
             (self.room / old).touch()
             self.assertEqual(due.name_after(self.room, self.room / old, now), new)
             (self.room / old).unlink()
 
-    def test_a_wrong_command_line_is_refused(self):
+    def test_a_wrong_command_line_is_refused(self) -> None:
         station = self.station()
         for words, said in ((["--when-above", "0"], "'0' is no whole number from 1 to 99, as 90 or 90%"),
                             (["--when-above", "100"], "'100' is no whole number"),
