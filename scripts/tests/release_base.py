@@ -99,7 +99,7 @@ def write(file: pathlib.Path, text: str) -> None:
 class ReleaseTest(unittest.TestCase):
     """A copy of the repository, and a folder for the release."""
 
-    PACKAGE = PACKAGE
+    PACKAGE: str | None = PACKAGE
 
     def setUp(self) -> None:
         room = tempfile.TemporaryDirectory(prefix="releases-")

@@ -14,6 +14,8 @@ import tarfile
 import tempfile
 import time
 import unittest
+from collections.abc import Iterable
+from typing import Any
 
 import debs
 import harness
@@ -21,45 +23,45 @@ import sbom
 from release_base import KIT, LOGIC, NOTES, VERSION, ReleaseTest, commit, git, write
 
 
-def digest_of(file):
+def digest_of(file: pathlib.Path) -> str:
     return hashlib.sha256(file.read_bytes()).hexdigest()
 
 
 class ReleaseRefused(ReleaseTest):
     """What is refused before anything is written."""
 
-    def test_a_changed_working_tree(self):
+    def test_a_changed_working_tree(self) -> None:
         (self.top / "README.md").write_text("changed\n")
         (self.top / "docs" / "NEW.md").write_text("new\n")
         self.assert_refused("the working tree has changes: commit or remove README.md, docs/NEW.md")
 
-    def test_another_branch(self):
+    def test_another_branch(self) -> None:
         git(self.top, "switch", "--quiet", "--create", "other")
         self.assert_refused("the branch is other, and releases are made on main: git switch main")
 
-    def test_no_branch(self):
+    def test_no_branch(self) -> None:
         git(self.top, "switch", "--quiet", "--detach")
         self.assert_refused("the branch is none, and releases are made on main: git switch main")
 
-    def test_another_number_than_that_of_the_file(self):
+    def test_another_number_than_that_of_the_file(self) -> None:
         self.assert_refused(f"VERSION has {VERSION}, not 9.8.7: give that number, or change the file",
                             "CHANGELOG.md: the newest entry isn't of 9.8.7: write one below `## 9.8.7, YYYY-MM-DD`",
                             f"the program prints `bovtrila {VERSION}`, not `bovtrila 9.8.7`: run scripts/dev/check-facts",
                             words=("9.8.7",))
 
-    def test_a_version_that_is_no_number(self):
+    def test_a_version_that_is_no_number(self) -> None:
         for word in ("v1.0.0", "1.0", "1.0.0-1"):
             status, out, err = self.release(word, self.to)
             self.assertEqual((status, out), (2, ""))
             self.assertIn(f"VERSION has to be three numbers, as 1.0.0: {word}\n", err)
 
-    def test_a_changelog_without_an_entry(self):
+    def test_a_changelog_without_an_entry(self) -> None:
         file = self.top / "CHANGELOG.md"
         file.write_text(file.read_text().replace(f"## {VERSION}, ", "## 0.0.1, "))
         commit(self.top)
         self.assert_refused(f"CHANGELOG.md: the newest entry isn't of {VERSION}: write one below `## {VERSION}, YYYY-MM-DD`")
 
-    def test_an_entry_that_does_not_say_how_to_upgrade(self):
+    def test_an_entry_that_does_not_say_how_to_upgrade(self) -> None:
         """Those of older entries don't count."""
         file = self.top / "CHANGELOG.md"
         file.write_text(f"# Changelog\n\n## {VERSION}, 2030-01-02\n\nNew:\n\n- Something.\n\n"
@@ -67,13 +69,13 @@ class ReleaseRefused(ReleaseTest):
         commit(self.top)
         self.assert_refused(f"CHANGELOG.md: the newest entry of {VERSION} has no line `To upgrade:`: add it, and what to do")
 
-    def test_programs_that_are_not_built(self):
+    def test_programs_that_are_not_built(self) -> None:
         for name in ("tap_server", "gate_send"):
             shutil.rmtree(self.top / "crates" / name / "out")
         self.assert_refused("tap_server isn't built and proved of these sources: run scripts/bovtrila serve --help",
                             "gate_send isn't built and proved of these sources: run scripts/bovtrila gate_send --help")
 
-    def test_a_program_that_is_built_of_other_sources(self):
+    def test_a_program_that_is_built_of_other_sources(self) -> None:
         with open(self.top / "crates" / "gate_send" / "src" / "arguments.rt", "a") as file:
             file.write("// other\n")
         subprocess.run([sys.executable, "-B", "-c", NOTES.replace("'gate_send'", "'tap_server'")],
@@ -81,40 +83,40 @@ class ReleaseRefused(ReleaseTest):
         commit(self.top)
         self.assert_refused("gate_send isn't built and proved of these sources: run scripts/bovtrila gate_send --help")
 
-    def test_without_the_toolchain(self):
+    def test_without_the_toolchain(self) -> None:
         (self.room / "tools" / "rt").unlink()
         if shutil.which("rt", path="/usr/sbin:/usr/bin:/bin"):
             self.skipTest("rt is in a folder of the system")
         self.assert_refused("PROVED has to name the toolchain, and its command rt isn't on the path: add it "
                             '(README.md, "Start")')
 
-    def test_a_toolchain_of_another_logic(self):
+    def test_a_toolchain_of_another_logic(self) -> None:
         write(self.room / "tools" / "rt", "#!/bin/sh\necho 'other-kit logic 1'\n")
         self.assert_refused(f"the program is `proved by Rattle, {LOGIC}`, and the toolchain here is `other-kit logic 1`: "
                             "use the one that proved the program")
 
-    def test_a_folder_that_is_there(self):
+    def test_a_folder_that_is_there(self) -> None:
         self.to.mkdir()
         self.assert_refused(f"{self.to} is there already: name another folder, or remove it")
         self.to.rmdir()
         self.to.symlink_to("nowhere")
         self.assert_refused(f"{self.to} is there already: name another folder, or remove it")
 
-    def test_a_folder_below_one_that_is_not_there(self):
+    def test_a_folder_below_one_that_is_not_there(self) -> None:
         self.to = self.to / "below"
         self.assert_refused(f"{self.to.parent} isn't a folder: make it first")
 
-    def test_a_folder_of_the_working_tree(self):
+    def test_a_folder_of_the_working_tree(self) -> None:
         self.to = self.top / "docs" / "release"
         self.assert_refused(f"{self.to} would be a change of the working tree: name one in out/ or outside of the repository")
 
-    def test_a_tag_at_another_commit(self):
+    def test_a_tag_at_another_commit(self) -> None:
         git(self.top, "tag", f"v{VERSION}")
         at = git(self.top, "rev-parse", "HEAD")
         git(self.top, "commit", "--quiet", "--allow-empty", "--message", "Later")
         self.assert_refused(f"the tag v{VERSION} is at another commit, {at}: a released version stays, so raise the number")
 
-    def test_a_tag_that_nobody_makes(self):
+    def test_a_tag_that_nobody_makes(self) -> None:
         git(self.top, "config", "--unset", "user.name")
         git(self.top, "config", "user.useConfigOnly", "true")
         status, out, err = self.release(VERSION, self.to)
@@ -126,28 +128,28 @@ class ReleaseRefused(ReleaseTest):
 class ReleaseFailed(ReleaseTest):
     """What fails on the way, and leaves nothing."""
 
-    def test_packages_that_differ(self):
+    def test_packages_that_differ(self) -> None:
         self.package_does('date --utc +%s%N >"$tree/usr/share/doc/bovtrila/moment"')
         self.assert_refused(f"scripts/package made other bytes the second time: bovtrila_{VERSION}-1_amd64.deb. Make it in "
                             "two folders, and compare them with diffoscope")
 
-    def test_a_package_that_depends_on_the_umask_and_the_clock(self):
+    def test_a_package_that_depends_on_the_umask_and_the_clock(self) -> None:
         self.package_does('touch "$1/$umask-$(date --date=@0 +%Z)"')
         self.assert_refused("scripts/package made other bytes the second time: 0022-UTC, 0077-NZST. Make it in two folders, "
                             "and compare them with diffoscope")
 
-    def test_a_package_that_can_not_be_made(self):
+    def test_a_package_that_can_not_be_made(self) -> None:
         self.package_does("echo 'package: no room' >&2; exit 1")
         before = self.traces()
         told = "package: no room\nrelease: scripts/package failed: see above\n"
         self.assertEqual(self.release(VERSION, self.to), (1, "", told))
         self.assertEqual(self.traces(), before)
 
-    def test_a_working_tree_that_changes_meanwhile(self):
+    def test_a_working_tree_that_changes_meanwhile(self) -> None:
         self.package_does("changed=', and changes that are not in it'")
         self.assert_refused("the working tree was changed while the package was made: run scripts/release again")
 
-    def test_a_folder_that_another_makes_meanwhile(self):
+    def test_a_folder_that_another_makes_meanwhile(self) -> None:
         """Its files stay, and the tag is taken back."""
         self.package_does(f"mkdir -p {self.to}; touch {self.to}/other")
         status, out, err = self.release(VERSION, self.to)
@@ -157,7 +159,7 @@ class ReleaseFailed(ReleaseTest):
         self.assertEqual([str(file.relative_to(self.to.parent)) for file in self.to.parent.rglob("*")],
                          ["release", "release/other"])
 
-    def test_a_run_that_is_ended(self):
+    def test_a_run_that_is_ended(self) -> None:
         begun = self.room / "begun"
         self.package_does(f"touch {begun}; exec sleep 600")
         started = self.start(VERSION, self.to)
@@ -177,33 +179,33 @@ class ReleaseFailed(ReleaseTest):
 class ReleaseMade(ReleaseTest):
     """A release with a stand-in of the package."""
 
-    def test_it_is_tagged(self):
+    def test_it_is_tagged(self) -> None:
         self.assert_made(VERSION)
         self.assertEqual(git(self.top, "cat-file", "-t", f"v{VERSION}"), "tag")
         self.assertEqual(git(self.top, "rev-parse", f"v{VERSION}^{{commit}}"), git(self.top, "rev-parse", "HEAD"))
         self.assertEqual(git(self.top, "tag", "--format=%(contents:subject)"), f"Bovtrila {VERSION}")
 
-    def test_a_dry_run_makes_no_tag(self):
+    def test_a_dry_run_makes_no_tag(self) -> None:
         self.assert_made("--dry-run", VERSION)
         self.assertEqual(git(self.top, "tag"), "")
         self.assertTrue((self.to / "SHA256SUMS").is_file())
 
-    def test_a_tag_of_a_run_that_was_killed_stays(self):
+    def test_a_tag_of_a_run_that_was_killed_stays(self) -> None:
         git(self.top, "tag", f"v{VERSION}")
         self.assert_made(VERSION)
         self.assertEqual(git(self.top, "cat-file", "-t", f"v{VERSION}"), "commit")
 
-    def test_nothing_stays_beside_it(self):
+    def test_nothing_stays_beside_it(self) -> None:
         self.assert_made(VERSION)
         self.assertEqual([entry.name for entry in self.to.parent.iterdir()], [self.to.name])
         self.assertEqual(git(self.top, "status", "--porcelain"), "")
 
-    def test_its_place_is_out_unless_another_is_named(self):
+    def test_its_place_is_out_unless_another_is_named(self) -> None:
         to = self.top / "out" / f"bovtrila-{VERSION}"
         self.assertEqual(self.release("--dry-run", VERSION), (0, f"{to}\n", ""))
         self.assertEqual(list(to.parent.iterdir()), [to])
 
-    def test_the_same_commit_gives_the_same_files(self):
+    def test_the_same_commit_gives_the_same_files(self) -> None:
         self.assert_made("--dry-run", VERSION)
         first, self.to = self.to, self.to.with_name("again")
         git(self.top, "config", "tar.umask", "0077")
@@ -211,7 +213,7 @@ class ReleaseMade(ReleaseTest):
         self.assert_made(VERSION)
         self.assertEqual(*({file.name: digest_of(file) for file in folder.iterdir()} for folder in (first, self.to)))
 
-    def test_what_the_package_depends_on_is_in_the_bill_of_materials(self):
+    def test_what_the_package_depends_on_is_in_the_bill_of_materials(self) -> None:
         self.assert_made("--dry-run", VERSION)
         bill = json.loads((self.to / f"bovtrila-{VERSION}.spdx.json").read_text())
         needed = {one["relatedSpdxElement"]: one["comment"] for one in bill["relationships"]
@@ -230,23 +232,23 @@ class ReleaseContents(ReleaseTest):
     PACKAGE = None
 
     @classmethod
-    def setUpClass(cls):
-        if debs.lacking():
-            raise unittest.SkipTest(debs.lacking())
+    def setUpClass(cls) -> None:
+        if lacking := debs.lacking():
+            raise unittest.SkipTest(lacking)
 
-    def setUp(self):
+    def setUp(self) -> None:
         super().setUp()
         self.assert_made(VERSION)
         self.package = next(self.to.glob("bovtrila_*.deb"))
         self.network = debs.of_network(self.package)
 
-    def checked(self, file, folder):
+    def checked(self, file: pathlib.Path, folder: pathlib.Path) -> tuple[int, str]:
         """The status of sha256sum with the digests of a file, in a folder, and what it says."""
         done = subprocess.run(["sha256sum", "--check", "--strict", "--quiet", "--ignore-missing", file], cwd=folder, text=True,
                               capture_output=True, env={**os.environ, "LC_ALL": "C"})
         return done.returncode, done.stdout
 
-    def test_what_is_in_it(self):
+    def test_what_is_in_it(self) -> None:
         self.assertRegex(self.package.name, rf"^bovtrila_{re.escape(VERSION)}-\d{{8}}\.\d{{6}}_amd64\.deb$")
         archive, bill = f"bovtrila-{VERSION}.tar.gz", f"bovtrila-{VERSION}.spdx.json"
         names = {"PROVED", "SHA256SUMS", archive, bill, self.package.name, self.network.name}
@@ -256,7 +258,7 @@ class ReleaseContents(ReleaseTest):
         self.assert_proved(sources)
         self.assert_bill(json.loads((self.to / bill).read_text()), archive)
 
-    def assert_digests(self, names):
+    def assert_digests(self, names: Iterable[str]) -> None:
         sums = self.to / "SHA256SUMS"
         self.assertEqual([line.split("  ")[1] for line in sums.read_text().splitlines()], sorted(names))
         self.assertEqual(self.checked(sums, self.to), (0, ""))
@@ -267,11 +269,12 @@ class ReleaseContents(ReleaseTest):
             self.assertEqual(self.checked(sums, self.to), (1, f"{name}: FAILED\n"))
             file.write_bytes(before)
 
-    def assert_sources(self, archive):
+    def assert_sources(self, archive: str) -> pathlib.Path:
         """The archive has what the commit has: the folder where it is unpacked."""
         with tarfile.open(self.to / archive) as tar:
             self.assertEqual({one.mtime for one in tar}, {int(git(self.top, "log", "-1", "--format=%ct"))})
-            tar.extractall(self.room / "sources", filter="tar")
+            # The argument is newer than the types of Debian's mypy.
+            tar.extractall(self.room / "sources", filter="tar")  # type: ignore[call-arg]
         sources = self.room / "sources" / f"bovtrila-{VERSION}"
         unpacked = {str(file.relative_to(sources)) for file in sources.rglob("*") if not file.is_dir()}
         self.assertEqual(unpacked, set(git(self.top, "ls-files").splitlines()))
@@ -279,7 +282,7 @@ class ReleaseContents(ReleaseTest):
             self.assertEqual(digest_of(sources / name), digest_of(self.top / name), name)
         return sources
 
-    def assert_proved(self, sources):
+    def assert_proved(self, sources: pathlib.Path) -> None:
         """PROVED is that of the package, and its digests are those of the archive and of the package's programs."""
         tree, proved = self.room / "tree", self.to / "PROVED"
         subprocess.run(["dpkg-deb", "--extract", self.package, tree], check=True)
@@ -294,7 +297,7 @@ class ReleaseContents(ReleaseTest):
         own.write_text(proved.read_text().replace("  /usr/bin/", f"  {tree}/usr/bin/"))
         self.assertEqual(self.checked(own, sources), (0, ""))
 
-    def assert_bill(self, bill, archive):
+    def assert_bill(self, bill: dict[str, Any], archive: str) -> None:
         """The bill of materials is SPDX 2.3, and has the files, the kit's crates and the package's dependencies."""
         said = bill["spdxVersion"], bill["dataLicense"], bill["SPDXID"]
         self.assertEqual(said, ("SPDX-2.3", "CC0-1.0", "SPDXRef-DOCUMENT"))
@@ -324,7 +327,7 @@ class ReleaseContents(ReleaseTest):
                              self.related(bill, "DEPENDS_ON", "bovtrila-network"))
         self.assertNotIn("SPDXRef-Debian-bovtrila", packages)
 
-    def related(self, bill, kind, package):
+    def related(self, bill: dict[str, Any], kind: str, package: str) -> set[str]:
         return {one["relatedSpdxElement"] for one in bill["relationships"]
                 if (one["relationshipType"], one["spdxElementId"]) == (kind, f"SPDXRef-Install-{package}")}
 
@@ -332,7 +335,7 @@ class ReleaseContents(ReleaseTest):
 class LinkedCrates(unittest.TestCase):
     """The kit's crates in the bill of materials."""
 
-    def test_those_of_tests_are_left_out(self):
+    def test_those_of_tests_are_left_out(self) -> None:
         with tempfile.TemporaryDirectory() as top:
             (pathlib.Path(top) / "crates.txt").write_text(
                 "# The workspace.\nlow: clap\nmiddle: low toml\nlow_tests: low csv\n"
