@@ -16,13 +16,14 @@ import time
 import types
 import unittest
 from collections.abc import Callable, Iterable, Iterator, Sequence
-from typing import Any, TypeAlias
+from typing import Any, Protocol, TypeAlias, TypeVar
 
 import harness
 import model
 import wire
 from harness import EXAMPLE, PROGRAM, TIME, TOP
 from listening import Door
+from planted import Planted
 
 # An argument of a command; what a gate says on a line, where long words are digests; and an opening's cause, its place and
 # the touches' frames.
@@ -89,13 +90,23 @@ def built(to: pathlib.Path, sources: Iterable[str | pathlib.Path], compiler: str
 
 def calls_library(to: pathlib.Path) -> pathlib.Path:
     """Builds the library that stands before the C library's calls."""
-    words: list[str | pathlib.Path] = ["gcc", "-Wall", "-Wextra", "-Werror", "-O1", "-shared", "-fPIC", "-o", to, TESTS / "calls.c", "-ldl"]
+    words: list[str | pathlib.Path] = ["gcc", "-Wall", "-Wextra", "-Werror", "-O1", "-shared", "-fPIC", "-o", to,
+                                       TESTS / "calls.c", "-ldl"]
     subprocess.run(words, check=True)
     return to
 
 
 class Gone(Exception):
     """The asker has ended, or the gate has to be opened again."""
+
+
+class Asking(Protocol):
+    """A running gate, or what stands before one. `opened` is what its opening came to."""
+
+    opened: Line
+
+    def ask(self, line: str, /) -> Line:
+        """Writes a line: the line that it is answered by."""
 
 
 class Asker:
@@ -207,7 +218,7 @@ class Careful:
         if first is reply and is_travel and told[0] == RESULT["ACCEPTED"]:
             self.opens.append(told[1])
 
-    def settle(self, asker: Asker, told: Line, replies: Sequence[int] = REPLIES) -> None:
+    def settle(self, asker: Asking, told: Line, replies: Sequence[int] = REPLIES) -> None:
         """Sends what waits again, until there is a reply. A server that is gone doesn't hold it up for good."""
         until = time.monotonic() + TIME
         while told[0] in WAITS:
@@ -218,7 +229,7 @@ class Careful:
             raise Gone(f"the gate says {told}")
         self.note(told, replies)
 
-    def begin(self, asker: Asker) -> int:
+    def begin(self, asker: Asking) -> int:
         """Settles what waits after an opening: how many touches were asked."""
         assert asker.opened == [CAUSE["OK"], 0, 0], asker.opened
         waiting = asker.ask("waiting")
@@ -227,10 +238,10 @@ class Careful:
         self.settle(asker, asker.ask("resend"), EARLIER)
         return int(waiting[1])
 
-    def run(self, asker: Asker, ask: Callable[[Asker, str], Line] | None = None) -> None:
+    def run(self, asker: Asking, ask: Callable[[str], Line] | None = None) -> None:
         """Asks what is left."""
         for place in range(self.begin(asker), len(self.frames)):
-            told = (ask or Asker.ask)(asker, act_of(self.frames[place]))
+            told = (ask or asker.ask)(act_of(self.frames[place]))
             assert told[1] in (place + 1, 0), f"touch {place + 1} was asked under number {told[1]}"
             self.settle(asker, told)
 
@@ -348,7 +359,7 @@ class GateTest(unittest.TestCase):
         self.folder, self.asker = pathlib.Path(folder.name), program("asker")
         self.file = self.folder / "7"
 
-    def start(self, *words: Word) -> Any:
+    def start(self, *words: object) -> Any:
         running = makers.Running(*words)
         self.addCleanup(running.kill)
         return running
@@ -366,9 +377,9 @@ class GateTest(unittest.TestCase):
         table = model.Table(EXAMPLE.read_text())
         return model.journal((self.folder / name).read_bytes(), table, cards)[0]
 
-    def planted(self) -> Any:
+    def planted(self) -> Planted:
         """A server over the model."""
-        server = makers.Planted()
+        server = Planted()
         self.addCleanup(server.end)
         return server
 
@@ -416,8 +427,11 @@ def journey(gate: int, cards: Any) -> Any:
     return makers.touches_of(gate, cards)
 
 
+Case = TypeVar("Case", bound=GateTest)
+
+
 @contextlib.contextmanager
-def of(owner: Callable[[], GateTest], program: pathlib.Path) -> Iterator[GateTest]:
+def of(owner: Callable[[], Case], program: pathlib.Path) -> Iterator[Case]:
     """A test of a class that asks with another program."""
     case = owner()
     case.setUp()

@@ -10,6 +10,8 @@ import tempfile
 import time
 import unittest
 import xml.etree.ElementTree as ElementTree
+from collections.abc import Callable
+from typing import Any, TypeAlias
 
 import clients
 import model
@@ -26,16 +28,18 @@ FORMS = {
     0x81: "gate number verdict change balance", 0x85: "state balance front", 0xFF: "fault gate number",
 }
 ANSWERS = {0x81: ">HIBiq", 0x85: ">BqI", 0xFF: ">BHI"}
+# What is shown of a frame: its packet's number and time, and each field's name, value and text.
+Packet: TypeAlias = tuple[int, float, list[tuple[str, str, str]]]
 STATES = {0: "vacant", 1: "outside", 2: "inside"}
 
 
-def words_of(section):
+def words_of(section: str) -> dict[int, str]:
     """The names that a table of the page gives to its codes."""
     text = PAGE.read_text().partition(f"\n## {section}\n")[2].partition("\n## ")[0]
     return {int(code): name for code, name in re.findall(r"(?m)^\| (\d+) \| (\w+) \|", text)}
 
 
-def shown(name, value):
+def shown(name: str, value: Any) -> str:
     """How a field of this value is shown."""
     if name == "digest":
         return ":".join(f"{byte:02x}" for byte in value)
@@ -44,7 +48,7 @@ def shown(name, value):
     return str(value)
 
 
-def fields_of(frame):
+def fields_of(frame: bytes) -> list[tuple[str, str]]:
     """The fields that a frame has to be shown with."""
     kind = frame[2]
     values = struct.unpack(ANSWERS.get(kind) or model.FORMS[kind].replace("B", "", 1), frame[3:])
@@ -55,18 +59,18 @@ def fields_of(frame):
 class Line:
     """Both ends of a connection over the loopback."""
 
-    def __init__(self, listening):
+    def __init__(self, listening: socket.socket) -> None:
         self.gate = socket.create_connection(listening.getsockname())
         self.server = listening.accept()[0]
         for end in (self.gate, self.server):
             end.setsockopt(socket.IPPROTO_TCP, socket.TCP_NODELAY, 1)
 
-    def end(self):
+    def end(self) -> None:
         self.gate.close()
         self.server.close()
 
     @staticmethod
-    def move(sender, receiver, data, size=None):
+    def move(sender: socket.socket, receiver: socket.socket, data: bytes, size: int | None = None) -> None:
         """Passes bytes from one end to the other, in pieces of a size."""
         size = size or len(data)
         for place in range(0, len(data), size):
@@ -82,9 +86,12 @@ class Dissector(unittest.TestCase):
 
     vectors = [(vector.request, vector.answer) for station in wire.vectors() for vector in station.vectors]
     first = vectors[:4]
+    file: pathlib.Path
+    port: int
+    packets: list[Packet]
 
     @classmethod
-    def setUpClass(cls):
+    def setUpClass(cls) -> None:
         folder = tempfile.TemporaryDirectory()
         cls.addClassCleanup(folder.cleanup)
         cls.file = pathlib.Path(folder.name) / "capture.pcapng"
@@ -95,11 +102,11 @@ class Dissector(unittest.TestCase):
                 cls.file.unlink(missing_ok=True)
                 cls.capture(lambda: cls.send_all(listening), pause)
                 cls.packets = cls.dissected()
-                if len(cls.packets) == len(cls.expected(cls)):
+                if len(cls.packets) == len(cls.expected()):
                     break
 
     @classmethod
-    def capture(cls, send, pause):
+    def capture(cls, send: Callable[[], object], pause: float) -> None:
         """Captures what passes while something is sent, and for a pause before and behind it."""
         words = ["tshark", "-q", "-i", "lo", "-f", f"tcp port {cls.port}", "-w", str(cls.file)]
         with tempfile.TemporaryFile("w+") as said:
@@ -116,7 +123,7 @@ class Dissector(unittest.TestCase):
             running.wait(TIME)
 
     @classmethod
-    def send_all(cls, listening):
+    def send_all(cls, listening: socket.socket) -> None:
         """The vectors, one by one; then the first example at once, and in pieces of a byte."""
         line = Line(listening)
         for request, answer in cls.vectors:
@@ -133,7 +140,7 @@ class Dissector(unittest.TestCase):
             line.end()
 
     @classmethod
-    def dissected(cls):
+    def dissected(cls) -> list[Packet]:
         """Each part of the protocol that is shown, in order: its packet's number, time and length, its fields and
         notes."""
         words = ["tshark", "-2", "-X", f"lua_script:{SCRIPT}", "-r", str(cls.file), "-T", "pdml",
@@ -143,26 +150,28 @@ class Dissector(unittest.TestCase):
         assert not wrong, wrong[:2]
         if done.returncode != 0:
             return []
-        found = []
+        found: list[Packet] = []
         for packet in ElementTree.fromstring(done.stdout).iter("packet"):
-            values = {field.get("name"): field.get("show") for field in packet.iter("field")}
+            values = {field.get("name", ""): field.get("show", "") for field in packet.iter("field")}
             for part in packet.iter("proto"):
                 if part.get("name") == "bovtrila":
-                    fields = [(field.get("name").removeprefix("bovtrila."), field.get("show"), field.get("showname"))
-                              for field in part.iter("field") if field.get("name").startswith("bovtrila.")]
+                    fields = [(field.get("name", "").removeprefix("bovtrila."), field.get("show", ""),
+                               field.get("showname", ""))
+                              for field in part.iter("field") if field.get("name", "").startswith("bovtrila.")]
                     found.append((int(values["frame.number"]), float(values["frame.time_epoch"]), fields))
         return found
 
-    def expected(self):
+    @classmethod
+    def expected(cls) -> list[bytes]:
         """What has to be shown of each vector and then of the first example, twice: requests and answers in order."""
-        singly = [frame for pair in self.vectors for frame in pair]
-        at_once = [request for request, _ in self.first] + [answer for _, answer in self.first]
+        singly = [frame for pair in cls.vectors for frame in pair]
+        at_once = [request for request, _ in cls.first] + [answer for _, answer in cls.first]
         return singly + 2 * at_once
 
     GENERATED = ("accepted", "response_in", "response_to", "response_time", "repeat_of", "bad_frame", "is_repeat",
                  "is_other", "is_fault")
 
-    def test_each_field_is_shown_by_its_name(self):
+    def test_each_field_is_shown_by_its_name(self) -> None:
         expected = self.expected()
         self.assertEqual(len(self.packets), len(expected))
         for (number, _, fields), frame in zip(self.packets, expected):
@@ -176,7 +185,7 @@ class Dissector(unittest.TestCase):
                 self.assertEqual(got, wanted)
 
     @staticmethod
-    def as_day(text):
+    def as_day(text: str) -> str:
         """A moment as tshark writes it, in the form of `shown`."""
         for form in ("%b %d, %Y %H:%M:%S", "%Y-%m-%d %H:%M:%S", "%Y-%m-%dT%H:%M:%S"):
             try:
@@ -185,9 +194,9 @@ class Dissector(unittest.TestCase):
                 pass
         return text
 
-    def test_verdicts_faults_and_states_are_shown_in_words(self):
+    def test_verdicts_faults_and_states_are_shown_in_words(self) -> None:
         words = {"verdict": words_of("Verdicts"), "fault": words_of("Faults"), "state": STATES}
-        seen = {name: set() for name in words}
+        seen: dict[str, set[int]] = {name: set() for name in words}
         for number, _, fields in self.packets:
             for name, show, showname in fields:
                 if name in words:
@@ -196,7 +205,7 @@ class Dissector(unittest.TestCase):
         self.assertEqual((seen["verdict"], seen["state"]), (set(words["verdict"]), set(STATES)))
         self.assertGreaterEqual(seen["fault"], {1, 2, 6})
 
-    def test_answers_are_tied_to_their_requests(self):
+    def test_answers_are_tied_to_their_requests(self) -> None:
         pairs = [(2 * place, 2 * place + 1) for place in range(len(self.vectors))]
         for start in (2 * len(self.vectors), 2 * len(self.vectors) + 8):
             pairs += [(start + place, start + 4 + place) for place in range(4)]
@@ -207,22 +216,21 @@ class Dissector(unittest.TestCase):
                 self.assertEqual((ties["response_in"], ties["response_to"]), (str(answer[0]), str(request[0])))
                 self.assertAlmostEqual(float(ties["response_time"]), answer[1] - request[1], 6)
 
-    def test_repeats_and_conflicts_are_marked(self):
-        first = {}
+    def test_repeats_and_conflicts_are_marked(self) -> None:
+        first: dict[bytes, tuple[int, bytes]] = {}
         for (number, _, fields), frame in zip(self.packets, self.expected()):
             if not wire.is_touch(frame) or not wire.is_request(frame):
                 continue
             marks = {name: show for name, show, _ in fields if name in ("repeat_of", "is_repeat", "is_other")}
             before, same = first.setdefault(frame[3:9], (number, frame))
-            if before == number and same is frame:
-                wanted = set()
-            else:
+            wanted: set[str] = set()
+            if before != number or same is not frame:
                 wanted = {"repeat_of", "is_repeat"} if same == frame else {"is_other"}
             with self.subTest(packet=number, frame=frame.hex()):
                 self.assertEqual(set(marks), wanted)
                 self.assertEqual(marks.get("repeat_of", str(before)), str(before))
 
-    def test_a_new_kind_is_shown_by_the_rows_of_the_tables(self):
+    def test_a_new_kind_is_shown_by_the_rows_of_the_tables(self) -> None:
         text = SCRIPT.read_text()
         for table, row in (("kinds", '[0x07] = "Block",'), ("lengths", "[0x07] = 15,"),
                            ("fields", '[0x07] = { { "gate", 2 }, { "number", 4 }, { "card", 4 }, { "moment", 4 } },')):
@@ -233,12 +241,13 @@ class Dissector(unittest.TestCase):
         dump.write_text("0000 " + bytes.fromhex("000f 07 0007 00000009 00000003 677b8b28").hex(" ") + "\n")
         subprocess.run(["text2pcap", "-q", "-T", "50000,4014", dump, capture], check=True, capture_output=True, timeout=TIME)
         fields = ["-T", "fields", "-e", "bovtrila.gate", "-e", "bovtrila.number", "-e", "bovtrila.card"]
-        for more, wanted in (([], "Block 7/9: card 3\n"), (fields, "7\t9\t3\n")):
+        rows: list[tuple[list[str], str]] = [([], "Block 7/9: card 3\n"), (fields, "7\t9\t3\n")]
+        for more, wanted in rows:
             done = subprocess.run(["tshark", "-X", f"lua_script:{script}", "-r", str(capture), *more], capture_output=True,
                                   text=True, timeout=TIME)
             self.assertIn(wanted, done.stdout, done.stderr)
 
-    def test_the_pieces_were_of_a_byte(self):
+    def test_the_pieces_were_of_a_byte(self) -> None:
         words = ["tshark", "-r", str(self.file), "-Y", "tcp.len == 1", "-T", "fields", "-e", "frame.number"]
         lines = subprocess.run(words, capture_output=True, text=True, check=True).stdout.split()
         self.assertGreaterEqual(len(lines), sum(len(request) + len(answer) for request, answer in self.first) - 20)

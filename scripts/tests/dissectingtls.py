@@ -1,4 +1,5 @@
-"""The tests of clients/wireshark/bovtrila.lua on what passes below TLS and to several servers, for scripts/tests/gate-library."""
+"""The tests of clients/wireshark/bovtrila.lua on what passes below TLS and to several servers, for
+scripts/tests/gate-library."""
 import concurrent.futures
 import os
 import pathlib
@@ -11,6 +12,7 @@ import tempfile
 import time
 import unittest
 import xml.etree.ElementTree as ElementTree
+from collections.abc import Iterable, Sequence
 
 import clients
 import wire
@@ -24,7 +26,8 @@ VERSIONS = ssl.TLSVersion.TLSv1_2, ssl.TLSVersion.TLSv1_3
 class SecuredLine(Line):
     """Both ends of a connection over the loopback below TLS of a version, whose keys go to a file."""
 
-    def __init__(self, listening, version, certificate, keys):
+    def __init__(self, listening: socket.socket, version: ssl.TLSVersion, certificate: pathlib.Path,
+                 keys: pathlib.Path) -> None:
         super().__init__(listening)
         of_server, of_gate = ssl.SSLContext(ssl.PROTOCOL_TLS_SERVER), ssl.SSLContext(ssl.PROTOCOL_TLS_CLIENT)
         for context in (of_server, of_gate):
@@ -39,7 +42,7 @@ class SecuredLine(Line):
             for done in [both.submit(end.do_handshake) for end in (self.gate, self.server)]:
                 done.result(TIME)
 
-    def together(self, frames):
+    def together(self, frames: Sequence[bytes]) -> None:
         """Sends frames to the server in a record each, and all records in one packet."""
         self.gate.setsockopt(socket.IPPROTO_TCP, socket.TCP_CORK, 1)
         for frame in frames:
@@ -56,9 +59,16 @@ class Apart(unittest.TestCase):
 
     first = [(vector.request, vector.answer) for vector in wire.vectors()[0].vectors[:4]]
     other = first[0][0][:-1] + b"\0"
+    folder: pathlib.Path
+    file: pathlib.Path
+    keys: pathlib.Path
+    certificate: pathlib.Path
+    listening: list[socket.socket]
+    ports: list[int]
+    shown: dict[int, list[tuple[str, dict[str, str]]]]
 
     @classmethod
-    def setUpClass(cls):
+    def setUpClass(cls) -> None:
         folder = tempfile.TemporaryDirectory()
         cls.addClassCleanup(folder.cleanup)
         cls.folder = pathlib.Path(folder.name)
@@ -81,7 +91,7 @@ class Apart(unittest.TestCase):
                 break
 
     @classmethod
-    def capture(cls, pause):
+    def capture(cls, pause: float) -> None:
         """Captures what passes while all is sent, and for a pause before and behind it."""
         ports = " or ".join(f"tcp port {port}" for port in cls.ports)
         words = ["tshark", "-q", "-i", "lo", "-f", ports, "-w", str(cls.file)]
@@ -100,7 +110,7 @@ class Apart(unittest.TestCase):
             running.wait(TIME)
 
     @classmethod
-    def send_plain(cls):
+    def send_plain(cls) -> None:
         """The first touches to each of two servers; then one again, another one under its name, and one that isn't
         answered."""
         for listening in cls.listening[:2]:
@@ -116,7 +126,7 @@ class Apart(unittest.TestCase):
             line.end()
 
     @classmethod
-    def send_secured(cls):
+    def send_secured(cls) -> None:
         """The first touches below TLS: one by one, all in one record, and a record each in one packet."""
         requests, answers = zip(*cls.first)
         for listening, version in zip(cls.listening[2:], VERSIONS):
@@ -131,7 +141,7 @@ class Apart(unittest.TestCase):
             line.end()
 
     @classmethod
-    def words(cls, *more):
+    def words(cls, *more: str) -> list[str]:
         """The arguments with which tshark reads the capture."""
         plain, secured = cls.ports[:2], cls.ports[2:]
         words = ["tshark", "-X", f"lua_script:{SCRIPT}", "-r", str(cls.file), "-o", f"tls.keylog_file:{cls.keys}", *more]
@@ -142,24 +152,24 @@ class Apart(unittest.TestCase):
         return words
 
     @classmethod
-    def dissected(cls):
+    def dissected(cls) -> dict[int, list[tuple[str, dict[str, str]]]]:
         """What is shown of each server's sessions, by its port: the packet's number and the fields of each frame, in
         order."""
         done = subprocess.run(cls.words("-2", "-T", "pdml"), capture_output=True, text=True, timeout=TIME * 2)
         wrong = [line for line in (done.stderr + done.stdout).split("\n") if re.search("Lua:? Error", line)]
         assert not wrong, wrong[:2]
-        found = {port: [] for port in cls.ports}
+        found: dict[int, list[tuple[str, dict[str, str]]]] = {port: [] for port in cls.ports}
         for packet in ElementTree.fromstring(done.stdout).iter("packet") if done.returncode == 0 else ():
-            values = {field.get("name"): field.get("show") for field in packet.iter("field")}
+            values = {field.get("name", ""): field.get("show", "") for field in packet.iter("field")}
             port, = {int(values["tcp.srcport"]), int(values["tcp.dstport"])} & set(cls.ports)
             for part in packet.iter("proto"):
                 if part.get("name") == "bovtrila":
-                    fields = {field.get("name").removeprefix("bovtrila."): field.get("show")
-                              for field in part.iter("field") if field.get("name").startswith("bovtrila.")}
+                    fields = {field.get("name", "").removeprefix("bovtrila."): field.get("show", "")
+                              for field in part.iter("field") if field.get("name", "").startswith("bovtrila.")}
                     found[port].append((values["frame.number"], fields))
         return found
 
-    def check_shown(self, port, frames):
+    def check_shown(self, port: int, frames: Sequence[bytes]) -> None:
         """Each frame is shown, by its fields but the moment, whose form is a matter of tshark."""
         self.assertEqual(len(self.shown[port]), len(frames))
         for (number, fields), frame in zip(self.shown[port], frames):
@@ -167,26 +177,26 @@ class Apart(unittest.TestCase):
                 if name != "moment":
                     self.assertEqual(fields[name], value, f"packet {number}, {frame.hex()}")
 
-    def test_sessions_below_tls_are_shown(self):
+    def test_sessions_below_tls_are_shown(self) -> None:
         singly = [frame for pair in self.first for frame in pair]
         at_once = [request for request, _ in self.first] + [answer for _, answer in self.first]
         for port in self.ports[2:]:
             with self.subTest(port=port):
                 self.check_shown(port, singly + at_once + at_once)
 
-    def check_tied(self, port, pairs):
+    def check_tied(self, port: int, pairs: Iterable[tuple[int, int]]) -> None:
         for asked, answered in pairs:
             with self.subTest(port=port, asked=asked):
                 request, answer = self.shown[port][asked], self.shown[port][answered]
                 self.assertEqual((request[1].get("response_in"), answer[1].get("response_to")), (answer[0], request[0]))
 
-    def test_answers_are_tied_to_the_requests_of_their_connection(self):
+    def test_answers_are_tied_to_the_requests_of_their_connection(self) -> None:
         pairs = [(2 * place, 2 * place + 1) for place in range(6)]
         for port in self.ports[:2]:
             self.check_tied(port, pairs)
             self.assertNotIn("response_in", self.shown[port][12][1])
 
-    def test_answers_below_tls_are_tied_to_their_requests(self):
+    def test_answers_below_tls_are_tied_to_their_requests(self) -> None:
         pairs = [(2 * place, 2 * place + 1) for place in range(4)]
         pairs += [(start + place, start + 4 + place) for start in (8, 16) for place in range(4)]
         for port in self.ports[2:]:
@@ -196,7 +206,7 @@ class Apart(unittest.TestCase):
         marked = [place for place, (_, fields) in enumerate(shown) if "repeat_of" in fields]
         self.assertEqual(marked, [*range(8, 12), *range(16, 20)])
 
-    def test_the_same_touch_to_another_server_is_no_repeat(self):
+    def test_the_same_touch_to_another_server_is_no_repeat(self) -> None:
         plain = [frame for pair in self.first for frame in pair]
         plain += [*self.first[0], self.other, bytes.fromhex("0008ff02000700000001"), self.first[1][0]]
         for port in self.ports[:2]:
@@ -208,7 +218,7 @@ class Apart(unittest.TestCase):
                                  {8: ["is_repeat", "repeat_of"], 10: ["is_other"], 12: ["is_repeat", "repeat_of"]})
                 self.assertEqual(self.shown[port][8][1]["repeat_of"], self.shown[port][0][0])
 
-    def test_the_command_of_the_page_shows_what_has_no_answer(self):
+    def test_the_command_of_the_page_shows_what_has_no_answer(self) -> None:
         command, = re.findall(r"^\$ tshark (-2 .*-Y '(.*)')$", README.read_text(), re.M)
         self.assertIn(f"`{command[1]}`", README.read_text())
         done = subprocess.run(self.words("-2", "-Y", command[1], "-T", "fields", "-e", "frame.number"), check=True,

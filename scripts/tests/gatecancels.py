@@ -11,11 +11,13 @@ import socket
 import subprocess
 import threading
 import time
+import unittest
+from collections.abc import Iterator, Sequence
 
 import clients
 import model
 import wire
-from clients import CAUSE, CLIENT, FIRST, RESULT, SOURCE, Careful, GateTest, journey
+from clients import CAUSE, CLIENT, FIRST, RESULT, SOURCE, Asker, Careful, GateTest, Line, journey
 from harness import TIME, TOP
 from listening import Door
 
@@ -33,14 +35,17 @@ MANY = 2000
 class Holding:
     """A server over the model that records each touch when it comes, and sends its answer when the test asks for it."""
 
-    def __init__(self, test):
+    def __init__(self, test: unittest.TestCase) -> None:
         self.station, self.came = wire.vectors()[0].model(), threading.Condition()
-        self.asked, self.answers, self.lines, self.ended = [], [], [], []
+        self.asked: list[bytes] = []
+        self.answers: list[bytes] = []
+        self.lines: list[socket.socket] = []
+        self.ended: list[socket.socket] = []
         door = Door(self.serve)
         self.text = door.text
         test.addCleanup(door.shut)
 
-    def serve(self, line):
+    def serve(self, line: socket.socket) -> None:
         with line, contextlib.suppress(OSError):
             while len(head := line.recv(2, socket.MSG_WAITALL)) == 2:
                 frame = head + line.recv(wire.number_at(head, 0, 2), socket.MSG_WAITALL)
@@ -51,30 +56,31 @@ class Holding:
                     self.came.notify_all()
         self.ended.append(line)
 
-    def wait_for(self, count):
+    def wait_for(self, count: int) -> None:
         """Waits until so many requests have come."""
         with self.came:
             assert self.came.wait_for(lambda: len(self.asked) >= count, TIME), f"{len(self.asked)} requests came"
 
-    def send(self, place):
+    def send(self, place: int) -> None:
         """Answers a request. The gate may have closed its connection."""
         with contextlib.suppress(OSError):
             self.lines[place].sendall(self.answers[place])
 
-    def has_ended(self, place):
+    def has_ended(self, place: int) -> bool:
         return clients.wait_for(lambda: self.lines[place] in self.ended)
 
 
-def is_asleep(process):
+def is_asleep(process: subprocess.Popen[str]) -> bool:
     """Whether the first thread of a process waits for something."""
     return pathlib.Path(f"/proc/{process.pid}/stat").read_text().rpartition(")")[2].split()[0] == "S"
 
 
-def is_connecting(process):
+def is_connecting(process: subprocess.Popen[str]) -> bool:
     """Whether a process waits for a connection to be made."""
     rows = [line.split() for line in pathlib.Path("/proc/net/tcp").read_text().split("\n")[1:-1]]
     waiting = {f"socket:[{row[9]}]" for row in rows if row[3] == "02"}
-    folder, held = f"/proc/{process.pid}/fd", set()
+    held: set[str] = set()
+    folder = f"/proc/{process.pid}/fd"
     for name in os.listdir(folder):
         with contextlib.suppress(OSError):
             held.add(os.readlink(f"{folder}/{name}"))
@@ -85,7 +91,7 @@ class Cancels(GateTest):
     """Calls that are cancelled while they wait, and before."""
 
     @contextlib.contextmanager
-    def opened(self, server, limit=LIMIT, backoff=1):
+    def opened(self, server: str | Sequence[str], limit: int = LIMIT, backoff: int = 1) -> Iterator[Asker]:
         """A gate whose calls may be cancelled in either way."""
         with self.open(server, times=(limit, limit, backoff, max(4, backoff))) as asker:
             self.assertEqual((asker.opened, asker.ask("watch")), ([CAUSE["OK"], 0, 0], [1]))
@@ -93,11 +99,11 @@ class Cancels(GateTest):
             # A sanitizer that finds a fault ends it by another status.
             self.assertEqual(asker.end(), 0)
 
-    def new_file(self):
+    def new_file(self) -> None:
         self.file.unlink(missing_ok=True)
         self.create()
 
-    def cancelled(self, asker, way, limit):
+    def cancelled(self, asker: Asker, way: str, limit: int) -> Line:
         """What a call that waits returns once it is cancelled, long before its time is over."""
         self.assertTrue(clients.wait_for(lambda: is_asleep(asker.process)))
         begun = time.monotonic()
@@ -106,12 +112,12 @@ class Cancels(GateTest):
         self.assertLess(time.monotonic() - begun, limit / 2000)
         return told
 
-    def check_kept(self, asker, frame=FIRST[0]):
+    def check_kept(self, asker: Asker, frame: bytes = FIRST[0]) -> None:
         """The touch is in the file, and waits."""
         self.assertEqual(self.file.read_bytes(), clients.file_of([frame], 1000, 7))
         self.assertEqual((asker.ask("error"), asker.ask("waiting")[:2]), ([errno.ECANCELED], [frame[2], 1]))
 
-    def check_answer(self, way, limit=LIMIT):
+    def check_answer(self, way: str, limit: int = LIMIT) -> None:
         """A touch and its repeat wait for a silent server. The touch is recorded once, and its reply comes at last."""
         self.new_file()
         server = Holding(self)
@@ -130,12 +136,12 @@ class Cancels(GateTest):
             self.assertEqual(asker.ask("resend")[0], RESULT["NONE_WAITS"])
         self.assertEqual((server.asked, server.station.history), (FIRST[:1] * 3, FIRST[:1]))
 
-    def test_a_call_that_waits_for_an_answer_is_cancelled(self):
+    def test_a_call_that_waits_for_an_answer_is_cancelled(self) -> None:
         for way in WAYS:
             with self.subTest(way):
                 self.check_answer(way)
 
-    def check_late_answer(self, way):
+    def check_late_answer(self, way: str) -> None:
         """The answer to a cancelled enquiry comes when the next one waits. No answer to an enquiry names its card."""
         self.new_file()
         server = Holding(self)
@@ -153,17 +159,17 @@ class Cancels(GateTest):
             self.assertEqual(asker.line(), [RESULT["SHOWN"], 0, 0, 0, 2])
         self.assertNotEqual(*server.answers)
 
-    def test_an_answer_that_comes_after_a_cancel_is_not_taken_for_the_next_one(self):
+    def test_an_answer_that_comes_after_a_cancel_is_not_taken_for_the_next_one(self) -> None:
         for way in WAYS:
             with self.subTest(way):
                 self.check_late_answer(way)
 
-    def check_repeat(self, way, limit=LIMIT):
+    def check_repeat(self, way: str, limit: int = LIMIT) -> None:
         """A call that waits before its next repeat, since the server has hung up."""
         self.new_file()
         ended = threading.Event()
 
-        def hang_up(connection):
+        def hang_up(connection: socket.socket) -> None:
             with connection, contextlib.suppress(OSError):
                 connection.recv(100)
                 connection.shutdown(socket.SHUT_WR)
@@ -177,12 +183,12 @@ class Cancels(GateTest):
             self.assertEqual(self.cancelled(asker, way, limit), CANCELLED)
             self.check_kept(asker)
 
-    def test_a_call_that_waits_before_a_repeat_is_cancelled(self):
+    def test_a_call_that_waits_before_a_repeat_is_cancelled(self) -> None:
         for way in WAYS:
             with self.subTest(way):
                 self.check_repeat(way)
 
-    def check_connecting(self, way, limit=LIMIT):
+    def check_connecting(self, way: str, limit: int = LIMIT) -> None:
         """A call whose connection isn't made, since others fill the queue of the server."""
         self.new_file()
         with contextlib.ExitStack() as stack:
@@ -200,12 +206,12 @@ class Cancels(GateTest):
             self.assertFalse(is_connecting(asker.process))
             self.check_kept(asker)
 
-    def test_a_call_that_waits_for_a_connection_is_cancelled(self):
+    def test_a_call_that_waits_for_a_connection_is_cancelled(self) -> None:
         for way in WAYS:
             with self.subTest(way):
                 self.check_connecting(way)
 
-    def check_before(self, limit=LIMIT):
+    def check_before(self, limit: int = LIMIT) -> None:
         """Each call after a cancel ends at once and sends nothing, until the cancel is cleared."""
         self.new_file()
         server = Holding(self)
@@ -224,10 +230,10 @@ class Cancels(GateTest):
             self.assertEqual(asker.line(), clients.worked_out(FIRST[:1])[0])
         self.assertEqual((server.asked, server.station.history), (FIRST[:1], FIRST[:1]))
 
-    def test_a_cancel_before_a_call_holds_until_it_is_cleared(self):
+    def test_a_cancel_before_a_call_holds_until_it_is_cleared(self) -> None:
         self.check_before()
 
-    def test_a_signal_that_comes_while_no_call_is_under_way_ends_the_next_one(self):
+    def test_a_signal_that_comes_while_no_call_is_under_way_ends_the_next_one(self) -> None:
         self.new_file()
         server = Holding(self)
         with self.opened(server.text) as asker:
@@ -237,7 +243,7 @@ class Cancels(GateTest):
             self.assertEqual(asker.ask("enquire 1"), NOT_SHOWN)
         self.assertEqual(server.asked, [])
 
-    def check_many(self):
+    def check_many(self) -> None:
         self.new_file()
         server = self.planted()
         with self.opened(server.text) as asker:
@@ -249,25 +255,25 @@ class Cancels(GateTest):
             self.assertEqual((asker.ask("enquire 1"), asker.ask("clear")), (NOT_SHOWN, [1]))
             self.assertEqual(asker.ask("enquire 1")[0], RESULT["SHOWN"])
 
-    def test_any_number_of_cancels_is_cleared_at_once(self):
+    def test_any_number_of_cancels_is_cleared_at_once(self) -> None:
         self.check_many()
 
-    def check_any_moment(self, cancels=200):
+    def check_any_moment(self, cancels: int = 200) -> None:
         """Touches whose calls are cancelled at moments that are drawn: each is recorded once and gets its reply."""
         self.new_file()
         frames, server = journey(7, [1]), self.planted()
         asking = Careful(frames)
         with self.opened(server.text) as asker:
             often = Often(asker, cancels)
-            asking.run(often, Often.ask)
+            asking.run(often)
         self.assertGreater(often.cancelled, 0)
         self.assertEqual((server.station.history, asking.told()), (frames, clients.worked_out(frames)))
         self.assertEqual(self.file.read_bytes(), clients.file_of(frames, 1000, 7))
 
-    def test_cancels_at_any_moment_lose_nothing(self):
+    def test_cancels_at_any_moment_lose_nothing(self) -> None:
         self.check_any_moment()
 
-    def test_a_gate_without_addresses_is_not_cancelled(self):
+    def test_a_gate_without_addresses_is_not_cancelled(self) -> None:
         # Its calls wait for nothing, and return as ever.
         self.new_file()
         with self.opened([]) as asker:
@@ -276,7 +282,7 @@ class Cancels(GateTest):
             self.assertEqual(asker.ask("resend"), [RESULT["NO_ANSWER"], 1, 0, 0, 0, 0])
             self.assertEqual(asker.ask(f"hear {clients.replied_to(FIRST[0]).hex()}")[0], RESULT["ACCEPTED"])
 
-    def test_what_the_system_refuses_is_told(self):
+    def test_what_the_system_refuses_is_told(self) -> None:
         library, server = clients.program("calls"), self.planted()
         self.new_file()
         log = clients.Log(library)
@@ -284,7 +290,7 @@ class Cancels(GateTest):
             self.assertEqual((asker.ask("cancel"), asker.ask("clear")), ([1], [1]))
         numbers = {name: log.numbers(name)[0] for name in ("socketpair", "send", "recv")}
 
-        def refusing(**more):
+        def refusing(**more: int) -> Asker:
             return self.open(server.text, **clients.Log(library, **more).options())
 
         with refusing(REFUSE=numbers["socketpair"]) as asker:
@@ -300,23 +306,26 @@ class Cancels(GateTest):
             self.assertEqual((asker.ask("cancel"), asker.ask("enquire 1"), asker.ask("clear")), ([1], NOT_SHOWN, [1]))
             self.assertEqual(asker.ask("enquire 1")[0], RESULT["SHOWN"])
 
-    def test_no_descriptor_passes_to_another_program(self):
+    def test_no_descriptor_passes_to_another_program(self) -> None:
         self.new_file()
         with self.open(self.planted().text) as asker:
             self.assertEqual(asker.ask("enquire 1")[0], RESULT["SHOWN"])
             folder, own = pathlib.Path(f"/proc/{asker.process.pid}/fdinfo"), 0
             for each in folder.iterdir():
                 if int(each.name) > 2:
-                    flags = int(re.search(r"(?m)^flags:\s+(\d+)$", each.read_text())[1], 8)
+                    [digits] = re.findall(r"(?m)^flags:\s+(\d+)$", each.read_text())
+                    flags = int(digits, 8)
                     self.assertTrue(flags & os.O_CLOEXEC, each.name)
                     own += 1
         # The gate's file, the connection, and the two sockets of cancels.
         self.assertEqual(own, 4)
 
-    def test_the_example_of_the_page_ends_at_a_signal_and_leaves_its_touch(self):
+    def test_the_example_of_the_page_ends_at_a_signal_and_leaves_its_touch(self) -> None:
         page = (TOP / "docs" / "GATE_LIBRARY.md").read_text()
         source = self.folder / "example.c"
-        source.write_text(re.search(r"## To end a call that waits\n.*?```c\n(.*?)```", page, re.S)[1])
+        shown = re.search(r"## To end a call that waits\n.*?```c\n(.*?)```", page, re.S)
+        assert shown, "the page has an example"
+        source.write_text(shown[1])
         program = clients.built(self.folder / "example", [source, SOURCE], include=CLIENT)
         server, frame = Holding(self), model.touch(model.ENTER, 7, 1, 3, 2, 0)
         self.new_file()
@@ -327,6 +336,7 @@ class Cancels(GateTest):
         server.wait_for(1)
         self.assertTrue(clients.wait_for(lambda: is_asleep(gate)))
         gate.terminate()
+        assert gate.stdout, "a pipe"
         self.assertEqual((gate.stdout.read(), gate.wait(TIME)), ("closed: cancelled\n", 0))
         # All but the moment, which is that of the example's clock.
         self.assertEqual([asked[:-4] for asked in server.asked], [frame[:-4]])
@@ -338,11 +348,11 @@ class Cancels(GateTest):
 class Often:
     """An asker of which so many calls are cancelled, each at a moment that is drawn."""
 
-    def __init__(self, asker, cancels):
+    def __init__(self, asker: Asker, cancels: int) -> None:
         self.asker, self.opened, self.left, self.cancelled = asker, asker.opened, cancels, 0
         self.draw = random.Random(52)
 
-    def ask(self, line):
+    def ask(self, line: str) -> Line:
         self.asker.write(line)
         if self.left > 0 and line != "waiting":
             self.left -= 1

@@ -2,20 +2,23 @@
 fail."""
 import errno
 import os
+import pathlib
 import random
 import re
 import socket
 import struct
 import subprocess
 import time
+from collections.abc import Iterable, Sequence
 
 import clients
 import harness
 import model
 import power
 import wire
-from clients import CAUSE, FIRST, RESULT, SOURCE, TESTS, Careful, GateTest, Gone, Told, journey, replied_to
+from clients import CAUSE, FIRST, RESULT, SOURCE, TESTS, Asker, Careful, GateTest, Gone, Line, Told, journey, replied_to
 from harness import EXAMPLE, TIME, TOP
+from planted import Planted
 
 
 class Files(GateTest):
@@ -23,11 +26,11 @@ class Files(GateTest):
 
     frames = journey(7, [1])[:5]
 
-    def opening(self, gate=7, addresses="127.0.0.1:1"):
+    def opening(self, gate: int = 7, addresses: str | Sequence[str] = "127.0.0.1:1") -> Line:
         with self.open(addresses, gate) as asker:
             return asker.opened
 
-    def test_a_file_is_made_by_the_bytes_of_the_page(self):
+    def test_a_file_is_made_by_the_bytes_of_the_page(self) -> None:
         self.assertEqual(self.create(258, 5), [CAUSE["OK"], 0, 0])
         self.assertEqual(self.file.read_bytes(), clients.file_of([], 5, 258))
         section = (TOP / "docs" / "JOURNAL.md").read_text().split("## A gate's file\n")[1].split("\n## ")[0]
@@ -38,7 +41,7 @@ class Files(GateTest):
         for at, data in shown.items():
             self.assertEqual(content[at:at + len(data)].hex(), data.hex(), hex(at))
 
-    def test_each_cause_of_a_making_is_told(self):
+    def test_each_cause_of_a_making_is_told(self) -> None:
         for capacity in (0, 1_000_001):
             self.assertEqual(self.create(capacity=capacity), [CAUSE["BAD_CAPACITY"], 0, 0])
         self.assertFalse(self.file.exists())
@@ -52,7 +55,7 @@ class Files(GateTest):
         for name, error in (("no/file", errno.ENOENT), ("7/file", errno.ENOTDIR)):
             self.assertEqual(clients.create(self.asker, self.folder / name, 7, 5), [CAUSE["NO_FOLDER"], 0, error])
 
-    def test_each_cause_of_an_opening_is_told(self):
+    def test_each_cause_of_an_opening_is_told(self) -> None:
         whole = clients.file_of(self.frames, 10, 7)
         other = model.header_of(10, 1, bytes(32)) + bytes(1)
         alike = model.header_of(10, 1, clients.tag(7, bytes(30))) + bytes(1)
@@ -87,7 +90,7 @@ class Files(GateTest):
         os.mkfifo(self.file)
         self.assertEqual(self.opening(), [CAUSE["NOT_PLAIN"], 0, errno.EINVAL])
 
-    def test_a_missing_folder_and_a_lack_of_permission_are_told(self):
+    def test_a_missing_folder_and_a_lack_of_permission_are_told(self) -> None:
         whole = self.file
         self.file = self.folder / "no" / "file"
         self.assertEqual(self.opening(), [CAUSE["NO_FOLDER"], 0, errno.ENOENT])
@@ -105,25 +108,26 @@ class Files(GateTest):
                             told = asker.opened
                     self.assertEqual(told, [CAUSE[cause], 0, error])
 
-    def old(self, gate, cards=1):
+    def old(self, gate: int, cards: int = 1) -> bytes:
         """The file of a gate as the library wrote it before version 1.1."""
         return model.journal_of(self.frames, 10, cards, clients.old_tag(gate))
 
-    def test_an_old_file_is_changed_over_by_the_commands_of_the_page(self):
+    def test_an_old_file_is_changed_over_by_the_commands_of_the_page(self) -> None:
         page = (TOP / "docs" / "GATE_LIBRARY.md").read_text()
-        commands = re.search(r"### To change an old file over.*?```\n(.*?)```", page, re.S)[1]
+        shown = re.search(r"### To change an old file over.*?```\n(.*?)```", page, re.S)
+        assert shown, "the page has commands"
         self.file = self.folder / "gate.file"
         self.write(self.old(7))
         self.assertEqual(self.opening(), [CAUSE["OLD_TAG"], 0, 0])
         self.assertEqual(self.file.read_bytes(), self.old(7))
-        done = subprocess.run(["sh", "-e"], input=commands, text=True, capture_output=True, cwd=self.folder, timeout=TIME)
+        done = subprocess.run(["sh", "-e"], input=shown[1], text=True, capture_output=True, cwd=self.folder, timeout=TIME)
         self.assertEqual(done.returncode, 0, done.stderr)
         self.assertEqual(self.file.read_bytes(), clients.file_of(self.frames, 10, 7))
         self.assertEqual([file.name for file in self.folder.iterdir()], ["gate.file"])
         with self.open("127.0.0.1:1") as asker:
             self.assertEqual((asker.opened, asker.ask("waiting")[1]), ([CAUSE["OK"], 0, 0], len(self.frames)))
 
-    def test_a_station_s_journal_is_another_file_and_a_server_refuses_a_gate_s(self):
+    def test_a_station_s_journal_is_another_file_and_a_server_refuses_a_gate_s(self) -> None:
         self.serve().kill()
         self.file = self.folder / "journal"
         self.assertEqual(self.opening(), [CAUSE["ANOTHER"], 0, 0])
@@ -133,7 +137,7 @@ class Files(GateTest):
                                       "--capacity", "1000", "--listen", "127.0.0.1:0", "--lines", "1"])
         self.assertEqual((status, err), (1, "fault journal 5 WrongTable\n"))
 
-    def test_the_server_s_own_program_reads_it(self):
+    def test_the_server_s_own_program_reads_it(self) -> None:
         server = self.serve()
         self.create()
         with self.open(server.text) as asker:
@@ -145,7 +149,7 @@ class Files(GateTest):
         self.assertEqual((said["version"], said["capacity"], said["cards"], said["touches"], said["digest"]),
                          ("2", "1000", "1", str(len(self.frames)), clients.tag(7).hex()))
 
-    def test_a_file_is_opened_once_at_a_time(self):
+    def test_a_file_is_opened_once_at_a_time(self) -> None:
         self.create()
         with self.open("127.0.0.1:1") as first:
             self.assertEqual(first.opened[0], CAUSE["OK"])
@@ -153,7 +157,7 @@ class Files(GateTest):
             self.assertEqual(self.create()[0], CAUSE["IN_USE"])
         self.assertEqual(self.opening()[0], CAUSE["OK"])
 
-    def test_an_address_that_is_none_is_told(self):
+    def test_an_address_that_is_none_is_told(self) -> None:
         self.create()
         for place, addresses in enumerate((["x"], ["127.0.0.1:1", ":5"], ["127.0.0.1:1"] * 2 + ["127.0.0.1:"])):
             with self.subTest(addresses):
@@ -163,7 +167,7 @@ class Files(GateTest):
             with self.subTest(port=port):
                 self.assertEqual(self.opening(addresses=[f"127.0.0.1:{port}"]), [CAUSE["NO_ADDRESS"], 0, 0])
 
-    def test_a_host_that_is_not_known_at_the_start_is_looked_up_again(self):
+    def test_a_host_that_is_not_known_at_the_start_is_looked_up_again(self) -> None:
         self.create()
         server = Told(self, [replied_to(frame) for frame in FIRST])
         log = clients.Log(clients.program("calls"), UNKNOWN=2)
@@ -175,7 +179,7 @@ class Files(GateTest):
         looked = [data for name, _, data in log.calls() if name == "look-up"]
         self.assertEqual(looked, [b"later.test"] * 3)
 
-    def test_a_known_address_that_answers_is_not_held_up_by_an_unknown_one(self):
+    def test_a_known_address_that_answers_is_not_held_up_by_an_unknown_one(self) -> None:
         self.create()
         server = Told(self, [replied_to(frame) for frame in FIRST])
         log = clients.Log(clients.program("calls"), UNKNOWN=1000)
@@ -186,7 +190,7 @@ class Files(GateTest):
         looked = [data for name, _, data in log.calls() if name == "look-up"]
         self.assertEqual(looked, [b"127.0.0.1", b"later.test"])
 
-    def test_a_call_with_no_known_host_ends_in_its_time(self):
+    def test_a_call_with_no_known_host_ends_in_its_time(self) -> None:
         self.create()
         log = clients.Log(clients.program("calls"), UNKNOWN=1000)
         with self.open(["later.test:1"], times=(300, 100, 20, 40), **log.options()) as asker:
@@ -195,7 +199,7 @@ class Files(GateTest):
             self.assertLess(time.monotonic() - begun, 5)
             self.assertEqual(asker.ask("error"), [errno.EHOSTUNREACH])
 
-    def test_a_full_file_takes_no_touch(self):
+    def test_a_full_file_takes_no_touch(self) -> None:
         self.create(capacity=2)
         with self.open(Told(self, [replied_to(frame) for frame in FIRST]).text) as asker:
             self.assertEqual(asker.ask("room"), [2])
@@ -209,7 +213,7 @@ class Files(GateTest):
         self.write(clients.file_of(FIRST[:2], 2, 7))
         self.assertEqual(self.opening()[0], CAUSE["OK"])
 
-    def test_a_long_file_is_opened(self):
+    def test_a_long_file_is_opened(self) -> None:
         frames = [model.touch(model.ISSUE, 7, number, 1, 0) for number in range(1, 5001)]
         for count in (63, 64, 65, 128, 5000):
             for capacity in (count, count + 1):
@@ -218,7 +222,7 @@ class Files(GateTest):
                     with self.open("127.0.0.1:1") as asker:
                         self.assertEqual((asker.opened, asker.ask("waiting")[:2]), ([0, 0, 0], [model.ISSUE, count]))
 
-    def check_bytes(self, program):
+    def check_bytes(self, program: pathlib.Path) -> int:
         """Each byte of a file changed to each other value."""
         whole = clients.file_of(self.frames[:4], 10, 7)
         self.write(whole)
@@ -234,7 +238,7 @@ class Files(GateTest):
             assert line == wanted, f"change {place}: {line}, and should be {wanted}"
         return len(lines)
 
-    def test_each_byte_changed_is_read_as_the_page_says(self):
+    def test_each_byte_changed_is_read_as_the_page_says(self) -> None:
         program = clients.built(self.folder / "openings", [TESTS / "openings.c", SOURCE])
         self.assertGreater(self.check_bytes(program), 80_000)
 
@@ -244,7 +248,7 @@ class Power(GateTest):
 
     frames = FIRST[:3]
 
-    def check_end(self, server, asking):
+    def check_end(self, server: Planted, asking: Careful) -> None:
         """Opens the file that is left, and goes on to the end of the touches."""
         with self.open(server.text) as asker:
             asking.run(asker)
@@ -252,7 +256,7 @@ class Power(GateTest):
         assert asking.told() == clients.worked_out(self.frames), asking.told()
         assert clients.reading(self.file.read_bytes(), 7) == (CAUSE["OK"], 0, self.frames)
 
-    def test_a_making_that_is_cut_at_each_byte_leaves_no_gate_or_a_whole_one(self):
+    def test_a_making_that_is_cut_at_each_byte_leaves_no_gate_or_a_whole_one(self) -> None:
         for write, size in ((1, 1), (2, 64), (3, 1)):
             for cut in range(size + 1):
                 with self.subTest(write=write, cut=cut):
@@ -265,7 +269,7 @@ class Power(GateTest):
                         self.assertEqual(asker.opened[0], CAUSE["OK" if is_made else "NOT_A_JOURNAL"])
                     self.assertEqual(self.create()[0], CAUSE["OK" if is_empty else "NOT_EMPTY"])
 
-    def check_cut(self, write, cut):
+    def check_cut(self, write: int, cut: int) -> None:
         """The power goes in the middle of a write, two for each touch."""
         self.file.unlink(missing_ok=True)
         server, asking = self.planted(), Careful(self.frames)
@@ -283,13 +287,13 @@ class Power(GateTest):
         assert server.station.history == self.frames[:before]
         self.check_end(server, asking)
 
-    def test_a_touch_that_is_cut_at_each_byte_is_asked_once(self):
+    def test_a_touch_that_is_cut_at_each_byte_is_asked_once(self) -> None:
         for write in range(1, 2 * len(self.frames) + 1):
             for cut in range(65 if write % 2 else 2):
                 with self.subTest(write=write, cut=cut):
                     self.check_cut(write, cut)
 
-    def check_killed(self, number, is_making):
+    def check_killed(self, number: int, is_making: bool) -> bool:
         """A making, or a gate's run, that is killed before a call of the system: whether there was such a call."""
         self.file.unlink(missing_ok=True)
         server, asking = self.planted(), Careful(self.frames)
@@ -309,7 +313,7 @@ class Power(GateTest):
         self.check_end(server, asking)
         return is_killed
 
-    def test_a_gate_that_is_killed_before_each_call_goes_on(self):
+    def test_a_gate_that_is_killed_before_each_call_goes_on(self) -> None:
         for is_making, least in ((True, 12), (False, 30)):
             for number in range(1, 200):
                 with self.subTest(number=number, is_making=is_making):
@@ -318,7 +322,7 @@ class Power(GateTest):
                     break
             self.assertGreater(number, least)
 
-    def check_counting(self):
+    def check_counting(self) -> None:
         """Touches over three openings."""
         self.create()
         server, asking = self.planted(), Careful(FIRST)
@@ -328,10 +332,10 @@ class Power(GateTest):
                 asking.run(asker)
         assert server.station.history == FIRST
 
-    def test_numbers_go_on_over_openings(self):
+    def test_numbers_go_on_over_openings(self) -> None:
         self.check_counting()
 
-    def logged(self):
+    def logged(self) -> list[tuple[str, int, bytes]]:
         """The calls of a making and of a gate that asks for the touches."""
         log, server = clients.Log(clients.program("calls")), self.planted()
         assert self.create(**log.options())[0] == CAUSE["OK"]
@@ -339,9 +343,10 @@ class Power(GateTest):
             Careful(self.frames).run(asker)
         return log.calls()
 
-    def check_kept_first(self):
+    def check_kept_first(self) -> None:
         """Nothing is sent that isn't durable, and the writes are those of docs/JOURNAL.md."""
-        disk, sent = power.Disk(), []
+        disk = power.Disk()
+        sent: list[bytes] = []
         for name, at, data in self.logged():
             disk.call(name, at, data)
             if name == "send":
@@ -350,10 +355,10 @@ class Power(GateTest):
                 assert clients.reading(disk.durable, 7) == (CAUSE["OK"], 0, sent), f"{data.hex()} isn't kept yet"
         assert sent == self.frames
 
-    def test_nothing_is_sent_before_it_is_durable(self):
+    def test_nothing_is_sent_before_it_is_durable(self) -> None:
         self.check_kept_first()
 
-    def test_the_calls_on_the_file_are_those_of_the_page(self):
+    def test_the_calls_on_the_file_are_those_of_the_page(self) -> None:
         calls = [(name, at, len(data)) for name, at, data in self.logged()
                  if name in ("pwrite", "fdatasync", "flock", "fsync", "fadvise", "pread")]
         opening = [("flock", 6, 0), ("fsync", 0, 0), ("fadvise", 4, 0), ("fsync", 0, 0)]
@@ -364,7 +369,7 @@ class Power(GateTest):
             wanted += [("pwrite", 65 + 64 * place, 64), sync, ("pwrite", 64 + 64 * place, 1), sync]
         self.assertEqual(calls, wanted)
 
-    def check_torn(self, seed=1):
+    def check_torn(self, seed: int = 1) -> int:
         """Each moment's losses of power, with any bytes where a write wasn't synced."""
         draw, disk, asked, count = random.Random(seed), power.Disk(), 0, 0
         for name, at, data in self.logged():
@@ -377,7 +382,7 @@ class Power(GateTest):
                 count += 1
         return count
 
-    def check_image(self, image, asked):
+    def check_image(self, image: bytes, asked: int) -> None:
         """A file that a loss of power has left, with so many touches sent: it has those, and may have one more."""
         self.write(image)
         cause, place, touches = clients.reading(image, 7)
@@ -390,24 +395,25 @@ class Power(GateTest):
             else:
                 assert cause == CAUSE["NOT_A_JOURNAL"] and asked == 0, f"{cause} of {image.hex()}"
 
-    def test_a_torn_write_leaves_what_was_before(self):
+    def test_a_torn_write_leaves_what_was_before(self) -> None:
         self.assertGreater(self.check_torn(), 200)
 
 
 class Steps(GateTest):
     """A gate with lines of its own: a touch is kept, its frame is handed out, and what came is heard."""
 
-    def keep(self, asker, frame):
+    def keep(self, asker: Asker, frame: bytes) -> Line:
         return asker.ask(f"keep-{clients.act_of(frame)}")
 
-    def frame_of(self, asker):
+    def frame_of(self, asker: Asker) -> bytes:
         """The frame that waits, or no bytes."""
         asker.write("frame")
+        assert asker.process.stdout, "a pipe"
         size, digits = asker.process.stdout.readline().rstrip("\n").split(" ")
         self.assertEqual(2 * int(size), len(digits))
         return bytes.fromhex(digits)
 
-    def test_touches_over_lines_of_the_gate_s_own(self):
+    def test_touches_over_lines_of_the_gate_s_own(self) -> None:
         revision = model.touch(model.REVISE, 7, 5, 0, bytes(range(32)), -3, 1736149800)
         frames, station = [*FIRST, revision], wire.vectors()[0].model()
         self.create()
@@ -433,7 +439,7 @@ class Steps(GateTest):
         with self.open([]) as asker:
             self.assertEqual(self.frame_of(asker), revision)
 
-    def test_enquiries_over_lines_of_the_gate_s_own(self):
+    def test_enquiries_over_lines_of_the_gate_s_own(self) -> None:
         pairs = [(vector.request, vector.answer) for station in wire.vectors() for vector in station.vectors
                  if wire.is_request(vector.request) and vector.request[2] == model.ENQUIRE]
         self.assertGreater(len(pairs), 10)
@@ -443,6 +449,7 @@ class Steps(GateTest):
             for request, answer in pairs:
                 with self.subTest(request.hex()):
                     asker.write(f"enquiry {wire.number_at(request, 3, 4)}")
+                    assert asker.process.stdout, "a pipe"
                     self.assertEqual(asker.process.stdout.readline(), f"7 {request.hex()}\n")
                     for size in range(len(answer)):
                         self.assertEqual(asker.ask(f"hear-enquiry {answer[:size].hex()}"),
@@ -459,7 +466,7 @@ class Steps(GateTest):
             # The touch waits on, whatever comes of enquiries.
             self.assertEqual(self.frame_of(asker), FIRST[0])
 
-    def test_what_is_no_reply(self):
+    def test_what_is_no_reply(self) -> None:
         self.create()
         reply = replied_to(FIRST[0])
         with self.open([]) as asker:
@@ -479,7 +486,7 @@ class Steps(GateTest):
             self.assertEqual(asker.ask("settled"), [4, 1, 1, 1736149800, 0, 0, 0, "00" * 32])
             self.assertEqual(asker.line(), clients.told_by(reply, 1))
 
-    def test_a_second_touch_is_not_kept(self):
+    def test_a_second_touch_is_not_kept(self) -> None:
         self.create(capacity=2)
         with self.open([]) as asker:
             self.keep(asker, FIRST[0])
@@ -492,7 +499,7 @@ class Steps(GateTest):
             asker.ask(f"hear {replied_to(FIRST[1]).hex()}")
             self.assertEqual(self.keep(asker, FIRST[2]), [RESULT["NO_ROOM"], 0, 0, 0, 0, 0])
 
-    def test_calls_that_send_keep_and_answer_at_once(self):
+    def test_calls_that_send_keep_and_answer_at_once(self) -> None:
         self.create()
         with self.open([], times=(60_000, 60_000, 60_000, 60_000)) as asker:
             self.assertEqual(asker.ask(clients.act_of(FIRST[0])), [RESULT["NO_ANSWER"], 1, 0, 0, 0, 0])
@@ -502,7 +509,7 @@ class Steps(GateTest):
             self.assertEqual(self.frame_of(asker), FIRST[0])
         self.assertEqual(self.file.read_bytes(), clients.file_of(FIRST[:1], 1000, 7))
 
-    def test_each_call_on_the_file_fails_in_turn(self):
+    def test_each_call_on_the_file_fails_in_turn(self) -> None:
         log = clients.Log(clients.program("calls"))
         self.create()
         with self.open([], **log.options()) as asker:
@@ -529,21 +536,21 @@ class Shared(GateTest):
 
     SENDER = harness.CRATES / "gate_send" / "out" / "gate_send"
 
-    def setUp(self):
+    def setUp(self) -> None:
         super().setUp()
         if not self.SENDER.is_file():
             self.skipTest("gate_send: not built")
 
-    def send(self, server, frames, *more):
+    def send(self, server: Planted, frames: Iterable[bytes], *more: str) -> list[str]:
         """What gate_send prints of these touches, and of what waited."""
         lines = "".join(f"at {each[-1]} {' '.join(each[:-1])}\n" for each in (clients.act_of(one).split() for one in frames))
-        words = [self.SENDER, "--gate", "7", "--file", self.file, "--tries", "3", *more, server.text]
+        words = [str(self.SENDER), "--gate", "7", "--file", str(self.file), "--tries", "3", *more, server.text]
         done = subprocess.run(words, input=lines, capture_output=True, text=True, timeout=TIME)
         self.assertEqual((done.returncode, done.stderr), (0, ""))
         return done.stdout.split("\n")[:-1]
 
     @staticmethod
-    def line_of(frame, answer):
+    def line_of(frame: bytes, answer: bytes) -> str:
         """The line of a touch and its answer: the fields of a history's row from the gate on."""
         kind, gate, number, card, *act = struct.unpack(model.FORMS[frame[2]], frame[2:])
         where, pence = (act[0] if kind == one else "" for one in (kind if kind in (model.ENTER, model.LEAVE) else None,
@@ -551,7 +558,7 @@ class Shared(GateTest):
         verdict, change, balance = struct.unpack(">Biq", answer[9:])
         return f"{gate},{number},{card},{model.ACTS[kind]},{where},{pence},{model.VERDICTS[verdict]},{change},{balance}"
 
-    def check_turns(self, frames, first):
+    def check_turns(self, frames: Sequence[bytes], first: str) -> None:
         """Touches that the two ask in turn, one each, and then the file, the history and each answer."""
         server, station = self.planted(), wire.vectors()[0].model()
         answers = [station.answer(frame) for frame in frames]
@@ -573,13 +580,13 @@ class Shared(GateTest):
             self.assertEqual(self.file.read_bytes(), clients.file_of(frames[:place + 1], 1000, 7))
         self.assertEqual(server.station.history, frames)
 
-    def test_each_goes_on_with_the_other_s_file(self):
+    def test_each_goes_on_with_the_other_s_file(self) -> None:
         for first in ("library", "gate_send"):
             with self.subTest(first):
                 self.file.unlink(missing_ok=True)
                 self.check_turns(journey(7, [1]), first)
 
-    def test_what_the_library_left_waiting_is_sent_by_gate_send(self):
+    def test_what_the_library_left_waiting_is_sent_by_gate_send(self) -> None:
         frames, server = FIRST[:3], self.planted()
         answers = [server.station.answer(frame) for frame in frames[:2]]
         self.create()
@@ -591,9 +598,10 @@ class Shared(GateTest):
         self.assertEqual(said, [self.line_of(frames[2], server.station.answer(frames[2]))])
         self.assertEqual(server.station.history, frames)
 
-    def test_what_gate_send_left_waiting_is_sent_by_the_library(self):
+    def test_what_gate_send_left_waiting_is_sent_by_the_library(self) -> None:
         nobody = f"127.0.0.1:{harness.free_port()}"
-        words = [self.SENDER, "--gate", "7", "--file", self.file, "--new", "--capacity", "1000", "--tries", "1", nobody]
+        words = [str(self.SENDER), "--gate", "7", "--file", str(self.file), "--new", "--capacity", "1000", "--tries", "1",
+                 nobody]
         done = subprocess.run(words, input="at 1736149800 issue 1\n", capture_output=True, text=True, timeout=TIME)
         self.assertEqual((done.returncode, done.stdout), (1, ""))
         self.assertEqual(self.file.read_bytes(), clients.file_of(FIRST[:1], 1000, 7))
@@ -602,9 +610,9 @@ class Shared(GateTest):
             asking.run(asker)
         self.assertEqual((server.station.history, asking.told()), (FIRST, clients.worked_out(FIRST)))
 
-    def test_one_of_them_has_it_at_a_time(self):
+    def test_one_of_them_has_it_at_a_time(self) -> None:
         self.create()
-        words = [self.SENDER, "--gate", "7", "--file", self.file, "127.0.0.1:1"]
+        words = [str(self.SENDER), "--gate", "7", "--file", str(self.file), "127.0.0.1:1"]
         with self.open("127.0.0.1:1") as asker:
             self.assertEqual(asker.opened[0], CAUSE["OK"])
             done = subprocess.run(words, input="", capture_output=True, text=True, timeout=TIME)
@@ -614,6 +622,7 @@ class Shared(GateTest):
         sender = subprocess.Popen(words, stdin=subprocess.PIPE, stdout=subprocess.PIPE, stderr=subprocess.PIPE, text=True)
         self.addCleanup(sender.communicate)
         self.addCleanup(sender.kill)
+        assert sender.stdin and sender.stdout, "pipes"
         sender.stdin.write("at 1736149800 issue 1\n")
         sender.stdin.flush()
         answer = wire.vectors()[0].model().answer(FIRST[0])
@@ -627,7 +636,7 @@ class Refused(GateTest):
 
     frames = FIRST
 
-    def run_once(self, server, **more):
+    def run_once(self, server: Planted, **more: int) -> tuple[bool, Careful]:
         """A making and a gate's run, of which a call is refused: whether one was."""
         log, asking = clients.Log(clients.program("calls"), **more), Careful(self.frames)
         try:
@@ -645,24 +654,24 @@ class Refused(GateTest):
             assert self.create()[0] == CAUSE["OK"]
         return is_refused, asking
 
-    def is_whole(self):
+    def is_whole(self) -> bool:
         return self.file.exists() and clients.reading(self.file.read_bytes(), 7)[0] == CAUSE["OK"]
 
-    def ask_all(self, asker, asking):
+    def ask_all(self, asker: Asker, asking: Careful) -> None:
         """Asks for the touches as far as the refusal lets it."""
         if asker.opened[0] != CAUSE["OK"]:
             assert asker.opened[0] in (CAUSE["DEVICE"], CAUSE["MEMORY"]), asker.opened
             return
         limited = Limited(asker)
         try:
-            asking.run(limited, Limited.ask)
+            asking.run(limited)
         except Gone:
             # After Device the gate is stopped, whatever it is asked.
             if limited.last[0] == RESULT["DEVICE"]:
                 for line in (clients.act_of(self.frames[0]), "resend"):
                     assert asker.ask(line) == [RESULT["STOPPED"], 0, 0, 0, 0, 0]
 
-    def check_refused(self, **more):
+    def check_refused(self, **more: int) -> bool:
         self.file.unlink(missing_ok=True)
         server = self.planted()
         is_refused, asking = self.run_once(server, **more)
@@ -674,7 +683,7 @@ class Refused(GateTest):
         assert again.told() == clients.worked_out(self.frames)
         return is_refused
 
-    def test_each_call_is_refused_once_and_from_then_on(self):
+    def test_each_call_is_refused_once_and_from_then_on(self) -> None:
         for onward in (0, 1):
             for number in range(1, 200):
                 with self.subTest(number=number, onward=onward):
@@ -683,11 +692,11 @@ class Refused(GateTest):
                     break
             self.assertGreater(number, 45)
 
-    def check_all_refused(self):
+    def check_all_refused(self) -> None:
         for number in range(20, 40):
             self.check_refused(REFUSE=number)
 
-    def check_parts(self):
+    def check_parts(self) -> None:
         """A request of which the connection took the first bytes alone."""
         self.create()
         log = clients.Log(clients.program("calls"), SHORT=1)
@@ -698,15 +707,15 @@ class Refused(GateTest):
         for number in numbers[::4]:
             assert self.check_refused(SHORT=1, REFUSE=number)
 
-    def test_a_request_that_was_cut_is_sent_again_over_another_connection(self):
+    def test_a_request_that_was_cut_is_sent_again_over_another_connection(self) -> None:
         self.check_parts()
 
-    def test_calls_that_fall_short_are_carried_on(self):
+    def test_calls_that_fall_short_are_carried_on(self) -> None:
         for more in ({"SHORT": 1}, {"INTERRUPT": 1}, {"SHORT": 1, "INTERRUPT": 1}):
             with self.subTest(more):
                 self.assertFalse(self.check_refused(**more))
 
-    def test_a_connection_sends_at_once_and_is_kept_alive(self):
+    def test_a_connection_sends_at_once_and_is_kept_alive(self) -> None:
         self.create()
         log = clients.Log(clients.program("calls"))
         with self.open(self.planted().text, **log.options()) as asker:
@@ -717,7 +726,7 @@ class Refused(GateTest):
         self.assertEqual(settings[:2], [(socket.TCP_NODELAY, on), (socket.SO_KEEPALIVE, on)])
         self.assertIn((socket.TCP_KEEPIDLE, struct.pack("=i", 30)), settings)
 
-    def test_no_memory_is_taken_after_the_opening(self):
+    def test_no_memory_is_taken_after_the_opening(self) -> None:
         self.create()
         log, server = clients.Log(clients.program("calls")), self.planted()
         with self.open(server.text, **log.options()) as asker:
@@ -731,10 +740,11 @@ class Refused(GateTest):
 class Limited:
     """An asker that goes no further after three repeats in vain."""
 
-    def __init__(self, asker):
-        self.asker, self.opened, self.left, self.last = asker, asker.opened, 3, [None]
+    def __init__(self, asker: Asker) -> None:
+        self.asker, self.opened, self.left = asker, asker.opened, 3
+        self.last: Line = [None]
 
-    def ask(self, line):
+    def ask(self, line: str) -> Line:
         told = self.asker.ask(line)
         self.last = told or self.last
         self.left -= bool(told) and told[0] in clients.WAITS

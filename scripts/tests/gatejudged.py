@@ -2,6 +2,7 @@
 scripts/tests/gate-sends."""
 import concurrent.futures
 import os
+import pathlib
 import subprocess
 
 from harness import TIME, TOP
@@ -12,30 +13,34 @@ from troubles import TROUBLES
 OPENING = {"Entered", "EnteredContinued", "EnteredOverOpen", "Exited", "ExitedLate", "ExitedUnstarted"}
 
 
-def opens(row):
+def opens(row: str) -> bool:
     """Whether a gate opens its barrier for this line of gate_send."""
     act, verdict = row.split(",")[3:7:3]
     word, _, code = verdict.partition(" ")
     return act in ("in", "out") and (verdict in OPENING or word == "verdict" and int(code) < 20)
 
 
-def stand_in(case, script, *more):
+def stand_in(case: SendTest, script: str, *more: str | pathlib.Path) -> tuple[subprocess.Popen[str], str]:
     """A stand-in for a server that answers by this script, and its address. It waits for the test, however slow that is."""
     steps = case.folder / "script"
     steps.write_text(script + "rest answer\n")
-    words = [TOP / "scripts" / "stand-in", "127.0.0.1:0", steps, "--linger", str(TIME), "--patience", str(TIME), *more]
+    words = [str(TOP / "scripts" / "stand-in"), "127.0.0.1:0", str(steps), "--linger", str(TIME), "--patience", str(TIME),
+             *map(str, more)]
     judge = subprocess.Popen(words, stdout=subprocess.PIPE, stderr=subprocess.PIPE, text=True)
     case.addCleanup(judge.communicate)
     case.addCleanup(judge.kill)
+    assert judge.stderr, "a pipe"
     return judge, judge.stderr.readline().split()[1]
 
 
 class Judged(SendTest):
-    """gate_send before a stand-in for the station. A run that ends at a fault is begun again with the lines that are left."""
+    """gate_send before a stand-in for the station. A run that ends at a fault is begun again with the lines that
+    are left."""
 
-    def told(self, station):
+    def told(self, station: str) -> dict[int, str]:
         """The line of each touch, by its number. A line that is told again has to be the same."""
-        told, runs, new = {}, 0, ["--new"]
+        told: dict[int, str] = {}
+        runs, new = 0, ["--new"]
         while len(told) < len(MORNING):
             runs += 1
             self.assertLess(runs, 30, "the touches aren't settled")
@@ -47,11 +52,12 @@ class Judged(SendTest):
             new = []
         return told
 
-    def judged(self, script):
+    def judged(self, script: str) -> tuple[int, str]:
         """What the stand-in says of gate_send: its status, and its last line with all of them."""
         opened = self.folder / "opened"
         os.mkfifo(opened)
         judge, station = stand_in(self, script, "--barrier", opened)
+        assert judge.stdout and judge.stderr, "pipes"
         with open(opened, "w") as barrier:
             told = self.told(station)
             barrier.write("".join(f"7 {number}\n" for number, row in told.items() if opens(row)) + "start 65535\n")
@@ -62,8 +68,8 @@ class Judged(SendTest):
         self.assertEqual(self.kept(), FRAMES)
         return judge.wait(TIME), said
 
-    def test_gate_send_repeats_the_same_bytes_and_a_barrier_opens_on_replies_alone(self):
-        def found(name):
+    def test_gate_send_repeats_the_same_bytes_and_a_barrier_opens_on_replies_alone(self) -> None:
+        def found(name: str) -> str | None:
             """What is wrong with one trouble, if anything is. Each waits more than it works."""
             case = Judged()
             case.setUp()
@@ -85,7 +91,7 @@ class Judged(SendTest):
 class Starts(SendTest):
     """A gate over gate_send that is started again (docs/PROTOCOL.md, "After a gate's start")."""
 
-    def test_a_start_isn_t_over_before_a_run_by_resend_ends_with_status_0(self):
+    def test_a_start_isn_t_over_before_a_run_by_resend_ends_with_status_0(self) -> None:
         _, station = stand_in(self, "answer\nanswer\nclose\nfault 5\nanswer\n")
         status, out, _ = self.send(MORNING[:3], "--new", "--tries", 1, station, timeout=1000 * TIME)
         self.assertEqual((status, out), (1, ANSWERED[:2]))
