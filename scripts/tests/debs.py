@@ -5,6 +5,7 @@ import re
 import shutil
 import subprocess
 import unittest
+from collections.abc import Callable
 
 import program
 from harness import TOP
@@ -13,17 +14,17 @@ NEEDED = {"debhelper": "dh", "dpkg-dev": "dpkg-buildpackage", "pandoc": "pandoc"
 TIME = 600
 
 
-def lacking():
+def lacking() -> str | None:
     """What hinders the making of a package here, or nothing."""
     missing = [package for package, command in NEEDED.items() if not shutil.which(command)]
     return f"a package is made by {', '.join(missing)}: not installed" if missing else None
 
 
-def make(folder, umask=-1, **environment):
+def make(folder: pathlib.Path, umask: int = -1, **environment: str) -> tuple[pathlib.Path, str]:
     """Makes the packages in the folder, with other rights for files or another environment where they are named; the path
     of the station's, and what was told."""
-    if lacking():
-        raise unittest.SkipTest(lacking())
+    if reason := lacking():
+        raise unittest.SkipTest(reason)
     # scripts/package would prove and build them, which is none of a test's business.
     stale = [name for name in ("tap_server", "gate_send") if not program.is_built(name)]
     if stale:
@@ -37,7 +38,7 @@ def make(folder, umask=-1, **environment):
     return pathlib.Path(done.stdout.splitlines()[-1]), done.stderr
 
 
-def of_network(package):
+def of_network(package: pathlib.Path) -> pathlib.Path:
     """The package of the network's tools that was made together with a station's package."""
     version = package.name.split("_")[1]
     return package.with_name(f"bovtrila-network_{version}_all.deb")
@@ -50,10 +51,10 @@ EARLIER = """\
 # The first start makes the journal. From the second start on take the other line, so that none makes another journal.
 SERVE="--table first.toml --journal station.journal --cards 1000 --capacity 1000000 --listen 127.0.0.1:4014 --lines 8"
 #SERVE="--table first.toml --journal station.journal --cards 1000 --capacity 1000000 --listen 127.0.0.1:4014 --lines 8 --strict"
-"""
+"""  # noqa: E501  # Its lines are those of the file as it was.
 
 
-def as_earlier(folder):
+def as_earlier(folder: pathlib.Path) -> None:
     """Gives what a package has the settings and the units that the version 1.0.0 had."""
     (folder / "etc" / "bovtrila").mkdir(parents=True)
     (folder / "etc" / "bovtrila" / "serve.conf").write_text(EARLIER)
@@ -65,7 +66,7 @@ def as_earlier(folder):
                                      "ExecStart=/usr/bin/bovtrila serve $SERVE\n"))
 
 
-def remade(package, version, change=None):
+def remade(package: pathlib.Path, version: str, change: Callable[[pathlib.Path], object] | None = None) -> pathlib.Path:
     """The package with another version, of itself and of the packages of the same version that it needs, and with a change
     of what it has: beside it."""
     folder = package.with_suffix("")
