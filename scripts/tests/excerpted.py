@@ -1,4 +1,5 @@
-"""The tables of docs/PERFORMANCE.md that scripts/dev/excerpts.py names: each has rows and columns of docs/MEASUREMENTS.md."""
+"""The tables of docs/PERFORMANCE.md that scripts/dev/excerpts.py names: each has rows and columns of
+docs/MEASUREMENTS.md."""
 import contextlib
 import io
 import unittest
@@ -26,7 +27,7 @@ class Excerpts(unittest.TestCase):
         shown = {name: lines for name, lines in measuring.tables(page).items() if name in excerpts.EXCERPTS}
         self.assertEqual(excerpts.excerpts(measured), shown, "run scripts/dev/measure-all --excerpts")
 
-    def test_no_table_is_on_both_pages(self):
+    def test_no_table_is_on_both_pages(self) -> None:
         page, measured = ((TOP / "docs" / name).read_text() for name in ("PERFORMANCE.md", "MEASUREMENTS.md"))
         self.assertEqual(measuring.tables(page).keys() & measuring.tables(measured).keys(), set())
 
@@ -51,7 +52,8 @@ class Excerpts(unittest.TestCase):
     def test_a_table_is_put_in_the_place_of_the_old_one(self) -> None:
         page = "One\n\n<!-- measured: a -->\n\n| old |\n|---|\n| 1 |\n| 2 |\n\nTwo\n\n<!-- measured: b -->\n\nThree\n"
         self.assertEqual(measuring.put(page, {"a": ["| new |", "|---|", "| 3 |"], "b": ["| first |"]}),
-                         "One\n\n<!-- measured: a -->\n\n| new |\n|---|\n| 3 |\n\nTwo\n\n<!-- measured: b -->\n\n| first |\n\nThree\n")
+                         "One\n\n<!-- measured: a -->\n\n| new |\n|---|\n| 3 |\n\n"
+                         "Two\n\n<!-- measured: b -->\n\n| first |\n\nThree\n")
         with contextlib.redirect_stderr(io.StringIO()) as said:
             self.assertEqual(measuring.put(page, {"gone": ["| 3 |"]}), page)
         self.assertEqual(said.getvalue(), "measure-all: the page has no place for the table 'gone'\n")

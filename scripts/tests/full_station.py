@@ -68,9 +68,8 @@ class Station:
                            f"echo $! >{self.pid}\n")
         stopper = f"test ! -e {self.pid} || kill $(cat {self.pid}) 2>/dev/null; rm -f {self.pid}"
         self.words: list[Word] = ["station.journal", "--folder", self.folder, "--config", self.config, "--program", PROGRAM,
-                                  "--user",
-                                  pwd.getpwuid(os.geteuid()).pw_name, "--stop", stopper, "--start", f"sh {starter}", "--watch", "0",
-                                  "--journal", "next.journal", "--capacity", "5000", *more]
+                                  "--user", pwd.getpwuid(os.geteuid()).pw_name, "--stop", stopper, "--start",
+                                  f"sh {starter}", "--watch", "0", "--journal", "next.journal", "--capacity", "5000", *more]
 
     def start(self) -> None:
         """Starts the server by the words that are there now, and waits until it answers."""
