@@ -7,8 +7,8 @@ from typing import Any
 
 import harness
 
-# Holds up each call of the lock where HOLD_LOCK is set, and each read of a file from the byte HOLD_READ on: from when the file
-# HELD is made until the file GO is there.
+# Holds up each call of the lock where HOLD_LOCK is set, and each read of a file from the byte HOLD_READ on: from when the
+# file HELD is made until the file GO is there.
 LIBRARY = r"""
 extern long syscall(long, ...);
 extern char *getenv(const char *);

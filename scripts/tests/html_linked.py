@@ -1,4 +1,5 @@
-"""The pages of the package as HTML: each link, picture and stylesheet leads to something there, and nothing to the network."""
+"""The pages of the package as HTML: each link, picture and stylesheet leads to something there, and nothing to the
+network."""
 import html.parser
 import pathlib
 import shutil
@@ -92,9 +93,11 @@ class Html(unittest.TestCase):
     def test_what_leads_nowhere_is_seen(self) -> None:
         with tempfile.TemporaryDirectory() as name:
             folder = pathlib.Path(name)
-            (folder / "ONE.html").write_text('<h1 id="one"><a href="#two"></a><a href="TWO.html"></a><img src="ONE.html" alt="">')
+            (folder / "ONE.html").write_text('<h1 id="one"><a href="#two"></a><a href="TWO.html"></a>'
+                                             '<img src="ONE.html" alt="">')
             self.assertEqual(set(faults(folder)), {"ONE.html: #two: no such heading", "ONE.html: TWO.html isn't there",
                                                    "ONE.html: ONE.html has no description"})
             (folder / "ONE.md").write_text('# One\n\nAs ONE.md, "Two", says.\n')
             done = make(folder)
-            self.assertEqual((done.returncode, done.stderr), (1, f"html-pages: {folder}/ONE.md: ONE.md has no section \"Two\"\n"))
+            self.assertEqual((done.returncode, done.stderr),
+                             (1, f"html-pages: {folder}/ONE.md: ONE.md has no section \"Two\"\n"))

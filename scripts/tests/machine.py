@@ -94,8 +94,9 @@ class Machine:
         for group in self.groups:
             group.mkdir()
         joins = "".join(f'echo $$ >"{group}/cgroup.procs"\n' for group in self.groups)
-        words: list[str | pathlib.Path] = ["unshare", "--mount", "--pid", "--fork", "--uts", "--ipc", "--cgroup", "--net", "--kill-child",
-                 "bash", "-c", BOOT, "boot", self.room, packages]
+        words: list[str | pathlib.Path] = ["unshare", "--mount", "--pid", "--fork", "--uts", "--ipc", "--cgroup", "--net",
+                                           "--kill-child",
+                                           "bash", "-c", BOOT, "boot", self.room, packages]
         # It ends with whoever made it, however that one ends.
         words = ["setpriv", "--pdeathsig", "KILL", "bash", "-c", f'{joins}exec "$@"', "join", *words]
         self.process = subprocess.Popen(words, stdin=subprocess.DEVNULL, stdout=subprocess.DEVNULL, text=True,
@@ -150,8 +151,9 @@ class Machine:
 
     def changed(self) -> list[str]:
         """The files that aren't those of this machine: what was made, changed or taken away there."""
-        words: list[str | pathlib.Path] = ["nsenter", "--target", str(self.process.pid), "--mount", "find", self.room / "upper", "!", "-type",
-                 "d", "-printf", "/%P\n"]
+        words: list[str | pathlib.Path] = ["nsenter", "--target", str(self.process.pid), "--mount", "find",
+                                           self.room / "upper", "!", "-type",
+                                           "d", "-printf", "/%P\n"]
         return subprocess.run(words, check=True, capture_output=True, text=True).stdout.splitlines()
 
     def end(self) -> None:

@@ -179,8 +179,8 @@ class Answers(OverBoth):
             opened.begin()
             # More than a pipe and the buffers beside it take.
             for card in range(2, 20_000):
-                opened.execute("INSERT INTO balances (journal, stage, card, place, state, balance, transferred, paid_in, charged)"
-                               " VALUES (1, 'loaded', :card, 0, 'outside', 0, 0, 0, 0)", card=card)
+                opened.execute("INSERT INTO balances (journal, stage, card, place, state, balance, transferred, paid_in,"
+                               " charged) VALUES (1, 'loaded', :card, 0, 'outside', 0, 0, 0, 0)", card=card)
             opened.commit()
         asked = subprocess.Popen([NETWORK / "query", "holdings", "--database", base], stdout=subprocess.PIPE,
                                  stderr=subprocess.PIPE)

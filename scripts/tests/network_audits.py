@@ -205,7 +205,7 @@ exec PROGRAM "$@"
         return started
 
     def scheduled(self, workers: int, *words: object, nanny: str = "--no-nanny") -> tuple[str,
-                  list[subprocess.Popen[bytes]]]:
+                                                                                          list[subprocess.Popen[bytes]]]:
         """A scheduler with so many workers: its address, and their processes. A nanny starts its worker again."""
         scheduler = self.room / "scheduler.json"
         self.start("dask_scheduler", "--host", "127.0.0.1", "--port", 0, "--no-dashboard", "--scheduler-file", scheduler,

@@ -1,5 +1,5 @@
-"""Tests of network/dashboard.json: each query of Prometheus by promtool, and each query of SQL on the network's database. For
-scripts/tests/network."""
+"""Tests of network/dashboard.json: each query of Prometheus by promtool, and each query of SQL on the network's database.
+For scripts/tests/network."""
 import contextlib
 import importlib.machinery
 import importlib.util

@@ -99,7 +99,8 @@ class Exports(OverBothWithTown):
         self.assertEqual(sum(pence(file).values()), 0)
 
     def test_a_changed_touch_fails_an_assertion(self) -> None:
-        for change in ("UPDATE touches SET pence = pence + 100, change = change + 100 WHERE verdict = 'ToppedUp' AND card = 2",
+        for change in ("UPDATE touches SET pence = pence + 100, change = change + 100"
+                       " WHERE verdict = 'ToppedUp' AND card = 2",
                        "UPDATE touches SET balance = balance + 100 WHERE card = 2"):
             with self.subTest(change):
                 base, home = self.fresh(f"changed{len(change)}"), room("network-changed-")

@@ -200,7 +200,8 @@ class Fetches(unittest.TestCase):
         self.write(birch="away.example:/srv")
         status, out, err = self.fetch()
         self.assertEqual((status, out), (1, "alder station.journal: station.journal-20260106T033000Z, 1 bytes\n"))
-        self.assertIn("fetch: birch: away.example:/srv: ssh: connect to host away.example port 22: Connection refused; ", err)
+        self.assertIn("fetch: birch: away.example:/srv: ssh: connect to host away.example port 22: Connection refused; ",
+                      err)
         self.assertEqual(len(err.splitlines()), 1)
         self.assertEqual(self.have(), {"alder/station.journal": b"c", "birch/station.journal": b"b" * 2000})
 
@@ -280,4 +281,4 @@ class Fetches(unittest.TestCase):
         (self.room / "fleet.toml").write_text(re.sub("first_card = .*", "first_card = -1", text))
         self.assertEqual(self.fetch("--check"), (1, "", f"fetch: {self.room}/fleet.toml: line 13: first_card: -1 isn't "
                          "allowed; write the network's number of the server's card 1, a number from 1 on without quotes, "
-                         "as 100001\n"))
+                                                 "as 100001\n"))

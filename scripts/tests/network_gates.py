@@ -73,10 +73,12 @@ class Gates(OverBoth):
             base.begin()
             digest = hashlib.sha256(b"table").hexdigest()
             base.execute("INSERT INTO stations (name) VALUES ('Alder')")
-            base.execute("INSERT INTO fare_tables (digest, content) VALUES (:digest, :content)", digest=digest, content=b"table")
+            base.execute("INSERT INTO fare_tables (digest, content) VALUES (:digest, :content)", digest=digest,
+                         content=b"table")
             base.make_months(["2025-01-06"])
             for journal, touches in cls.touches.items():
-                base.execute("INSERT INTO servers (name, station, first_card) VALUES (:name, 'Alder', 1)", name=f"alder-{journal}")
+                base.execute("INSERT INTO servers (name, station, first_card) VALUES (:name, 'Alder', 1)",
+                             name=f"alder-{journal}")
                 base.execute("INSERT INTO journals (server, name, version, capacity, cards, digest, touches, seal)"
                              " VALUES (:server, 'journal', 2, 1000, 10, :digest, :touches, :digest)",
                              server=f"alder-{journal}", digest=digest, touches=len(touches))
@@ -110,7 +112,8 @@ class Gates(OverBoth):
         wanted = [(*key, "loaded", town.moment_text(last[key]), len(steps[key])) for key in sorted(last)]
         self.assertEqual(len(wanted), JOURNALS * GATES)
         self.assertEqual([gate for _, gate, *_, times in wanted if times], [1, 3, 5] * JOURNALS)
-        self.assertEqual(self.asked(self.base, "SELECT journal, gate, stage, moment, times_back FROM gates ORDER BY 1, 2"), wanted)
+        self.assertEqual(self.asked(self.base, "SELECT journal, gate, stage, moment, times_back FROM gates ORDER BY 1, 2"),
+                         wanted)
 
     def test_clocks_has_the_rows_of_a_pass_over_all_touches(self) -> None:
         days = sorted({day_of(moment) for touches in self.touches.values() for moment, *_ in touches})

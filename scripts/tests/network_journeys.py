@@ -209,11 +209,13 @@ class Zones(unittest.TestCase):
         self.addCleanup(time.tzset)
         self.addCleanup(os.environ.__setitem__, "TZ", os.environ.get("TZ", "UTC0"))
         draw = random.Random(3)
-        for rule in ("GMT0BST,M3.5.0/1,M10.5.0", "GMT0BST,M3.5.0/1,M10.5.0/5", "STD0DST-6,J6/12,J7/6", "<+0330>-3:30", "UTC0",
+        for rule in ("GMT0BST,M3.5.0/1,M10.5.0", "GMT0BST,M3.5.0/1,M10.5.0/5", "STD0DST-6,J6/12,J7/6", "<+0330>-3:30",
+                     "UTC0",
                      "NZST-12NZDT,M9.5.0,M4.1.0/3", "<-02>2<-01>,M3.5.0/-1,M10.5.0/0", "IST-1GMT0,M10.5.0,M3.5.0/1"):
             os.environ["TZ"] = rule
             time.tzset()
             zone = fares.zone_of(rule)
             with self.subTest(rule):
                 for moment in (draw.randrange(2**32) for _ in range(2000)):
-                    self.assertEqual(datetime.datetime.fromtimestamp(moment, zone).timetuple()[:6], time.localtime(moment)[:6])
+                    self.assertEqual(datetime.datetime.fromtimestamp(moment, zone).timetuple()[:6],
+                                     time.localtime(moment)[:6])

@@ -41,7 +41,8 @@ class Paths(harness.ProgramTest):
         for path, words in self.WORDS.items():
             for journal, table, database, more in ((path, EXAMPLE, "network.db", "name a file"),
                                                    ("journal", path, "network.db", "name a file"),
-                                                   ("journal", EXAMPLE, path, "name SQLite's file, or a URL postgresql://..")):
+                                                   ("journal", EXAMPLE, path,
+                                                    "name SQLite's file, or a URL postgresql://..")):
                 with self.subTest(path=path, database=database, table=str(table)):
                     asked = ("--station", "Alder", "--journal", journal, "--table", table, "--database", database,
                              "--program", PROGRAM)
@@ -55,7 +56,8 @@ class Paths(harness.ProgramTest):
                 self.assertEqual(status, 1)
                 self.assertEqual([line.split(",")[0] for line in out.splitlines()[:2]],
                                  [f"alder: {words}; name a file", "birch: sound"])
-                commands: list[list[str | pathlib.Path]] = [["--table", path, "--report", "new.json"], [*TABLES, "--report", path]]
+                commands: list[list[str | pathlib.Path]] = [["--table", path, "--report", "new.json"],
+                                                            [*TABLES, "--report", path]]
                 for asked in commands:
                     self.assertEqual(self.said("audit", "journal", *asked, "--program", PROGRAM),
                                      (1, "", f"audit: {self.named(path, asked)}: {words}; name a file\n"))

@@ -236,7 +236,8 @@ class PostgresQueries(Queries, OnPostgres, DatabaseTest):
     def test_a_full_disk_is_told(self) -> None:
         with contextlib.closing(database.connect(self.base)) as opened:
             with mock.patch("tempfile.TemporaryFile", lambda *_, **__: open("/dev/full", "w+", encoding="utf-8")):
-                with self.assertRaisesRegex(database.Unfit, f"^{tempfile.gettempdir()}: No space left on device; .* TMPDIR$"):
+                with self.assertRaisesRegex(database.Unfit,
+                                            f"^{tempfile.gettempdir()}: No space left on device; .* TMPDIR$"):
                     opened.stream("SELECT * FROM history")
 
     def test_no_plan_is_compiled(self) -> None:
@@ -258,9 +259,11 @@ class Words(unittest.TestCase):
 
     def test_a_wrong_command_line_is_told(self) -> None:
         asked: list[tuple[list[str], str]] = [([], "name a query, or --list"), (["held"], "held needs --card"),
-                            (["journeys"], "journeys needs --from"), (["inside", "--from", "2025-01-06"], "needs --at"),
-                            (["rides"], "invalid choice"), (["clocks", "--from", "6 Jan"], "'6 Jan' is no date"),
-                            (["inside", "--at", "8:00"], "'8:00' is no moment")]
+                                              (["journeys"], "journeys needs --from"),
+                                              (["inside", "--from", "2025-01-06"], "needs --at"),
+                                              (["rides"], "invalid choice"),
+                                              (["clocks", "--from", "6 Jan"], "'6 Jan' is no date"),
+                                              (["inside", "--at", "8:00"], "'8:00' is no moment")]
         for words, said in asked:
             with self.subTest(words):
                 done = call("query", *words)
@@ -322,7 +325,8 @@ ANALYZE;
 
 
 # What is asked of each query for its plan: of a recent fare day.
-PLANNED: dict[str, int | str] = {"card": 1234, "first": "2025-02-27", "last": "2025-02-27", "day_before": "2025-02-28T00:00:00Z"}
+PLANNED: dict[str, int | str] = {"card": 1234, "first": "2025-02-27", "last": "2025-02-27",
+                                 "day_before": "2025-02-28T00:00:00Z"}
 # The queries that read the touches of some fare days in one pass, and no other touches.
 ONE_PASS = ("journeys", "refusals", "clocks")
 # The queries that read the journeys of some fare days, and no others.
@@ -337,7 +341,8 @@ class SqlitePlans(OnSqlite, unittest.TestCase):
             opened.make_tables()
             for name, query in queries.known().items():
                 plan = "; ".join(str(row[3]) for row in opened.table(
-                    f"EXPLAIN QUERY PLAN {opened.own(query.text)}", **{wanted: PLANNED[wanted] for wanted in query.wanted})[1])
+                    f"EXPLAIN QUERY PLAN {opened.own(query.text)}",
+                    **{wanted: PLANNED[wanted] for wanted in query.wanted})[1])
                 with self.subTest(name):
                     for index in query.indexes:
                         self.assertIn(f"INDEX {index.replace('balances_pkey', 'sqlite_autoindex_balances_1')}", plan)

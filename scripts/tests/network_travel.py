@@ -1,7 +1,7 @@
 """The journeys that the reference model makes of the touches of cards, and generated cards: for scripts/tests/network.
 
-The rows are made from the taps of scripts/model.py and its rules alone: a journey's fare, and what the day's charge with it is
-more than without it.
+The rows are made from the taps of scripts/model.py and its rules alone: a journey's fare, and what the day's charge with it
+is more than without it.
 """
 import collections
 import functools
@@ -93,7 +93,8 @@ class Travel:
             later = taps[place + 1] if place + 1 < len(taps) else None
             if tap.is_entry and place not in ended:
                 start = taps[self.first(place)]
-                charge, late = card.of_entry(start, tap).maximum(start.stamp.window), later if later and not later.is_entry else None
+                charge = card.of_entry(start, tap).maximum(start.stamp.window)
+                late = later if later and not later.is_entry else None
                 charge += card.of_late(late).maximum(late.stamp.window) if late else 0
                 kind = "late" if late else "unfinished" if later else "inside"
                 found.append(self.row(place, kind, tap, late, 0, None,
@@ -152,7 +153,8 @@ class Takings:
                 of[1] += row.fare or 0
                 of[2 if is_journey else 4] += row.charged
                 of[3] += not is_journey
-        return [(station, *self.stations[station], *of) for station, of in sorted(sums.items(), key=lambda item: item[0] or 0)]
+        return [(station, *self.stations[station], *of) for station,
+                of in sorted(sums.items(), key=lambda item: item[0] or 0)]
 
     def caps(self) -> list[tuple[str, int, int, int, int, int]]:
         days: dict[str, dict[tuple[str, int], list[int]]] = collections.defaultdict(
@@ -161,7 +163,8 @@ class Takings:
             if row.kind == "journey":
                 of = days[row.day][server, row.card]
                 of[:] = of[0] + 1, of[1] + (row.fare or 0), of[2] + row.charged
-        sums = [(day, [*cards.values()], *(sum(column) for column in zip(*cards.values()))) for day, cards in sorted(days.items())]
+        sums = [(day, [*cards.values()], *(sum(column) for column in zip(*cards.values()))) for day,
+                cards in sorted(days.items())]
         return [(day, count, fares, charged, fares - charged, sum(charge < fare for _, fare, charge in of))
                 for day, of, count, fares, charged in sums]
 

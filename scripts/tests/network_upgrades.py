@@ -157,7 +157,8 @@ class PostgresMigrations(Migrations, OnPostgres, DatabaseTest):
         self.assertEqual([load(LOADED[0], part, base).returncode for part in ("friday", "end")], [0, 0])
         self.assertEqual(call("check", "--database", base).returncode, 0)
         self.assertEqual(call("migrate", "--database", base).stdout, "version 5\n")
-        self.assertEqual(self.asked(base, "SELECT count(*) FROM pg_class WHERE relnamespace = 'public'::regnamespace"), [(2,)])
+        self.assertEqual(self.asked(base, "SELECT count(*) FROM pg_class WHERE relnamespace = 'public'::regnamespace"),
+                         [(2,)])
         alone = self.fresh("alone")
         self.assertEqual(load(LOADED[0], "friday", alone).returncode, 0)
         self.assertEqual(self.schemas(alone), ["bovtrila"])
@@ -221,10 +222,12 @@ class Owners(OnPostgres, DatabaseTest):
         self.assertEqual(load("alder-1", "friday", base).returncode, 0)
         for _ in range(2):
             self.assertEqual(self.psql(base, "-1", "-f", NETWORK / "roles.sql").stderr, "")
-        self.psql(base, "-c", "CREATE ROLE carla LOGIN IN ROLE bovtrila_loader; CREATE ROLE anna LOGIN IN ROLE bovtrila_reader")
+        self.psql(base, "-c",
+                  "CREATE ROLE carla LOGIN IN ROLE bovtrila_loader; CREATE ROLE anna LOGIN IN ROLE bovtrila_reader")
         loader, reader = (base.replace("postgres@", f"{name}@") for name in ("carla", "anna"))
         # A new month needs a partition, which the loader doesn't own.
-        self.assertEqual([load("alder-1", "end", loader).stderr, call("check", "--all", "--database", loader).stderr], ["", ""])
+        self.assertEqual([load("alder-1", "end", loader).stderr, call("check", "--all", "--database", loader).stderr],
+                         ["", ""])
         self.assertEqual(call("query", "holdings", "--database", reader).returncode, 0)
         self.assertEqual(call("query", "freshness", "--from", town.SATURDAY, "--database", reader).returncode, 0)
         done = self.psql(reader, "-At", "-c", "SELECT count(*) > 0 FROM held")
@@ -253,7 +256,8 @@ class Owners(OnPostgres, DatabaseTest):
         of_service = {**os.environ, "PGSERVICEFILE": str(home / "services")}
         of_libpq = {**os.environ, "PGHOST": "127.0.0.1", "PGPORT": str(port), "PGUSER": "postgres", "PGDATABASE": "named"}
         for name, env in (("service=town", of_service), ("postgresql:///?service=town", of_service),
-                          (f"host=127.0.0.1 port={port} dbname=named user=postgres", os.environ), ("postgresql://", of_libpq)):
+                          (f"host=127.0.0.1 port={port} dbname=named user=postgres", os.environ),
+                          ("postgresql://", of_libpq)):
             with self.subTest(name):
                 done = call("query", "holdings", "--database", name, env=dict(env))
                 self.assertEqual((done.returncode, done.stdout), (0, wanted), done.stderr)
@@ -278,8 +282,9 @@ class Owners(OnPostgres, DatabaseTest):
             self.assertEqual(load(name, "end", base).returncode, 0)
         self.assertEqual([call("check", *more, "--database", base).stdout.count("\n") for more in ((), ("--all",))], [1, 1])
         done = load("birch-1", "end", base, "--compare")
-        self.assertEqual((done.returncode, done.stdout), (0, f"birch-1 station.journal: {self.town.fronts['birch-1']} touches"
-                                                             " compared, 0 differences\n"))
+        self.assertEqual((done.returncode, done.stdout),
+                         (0, f"birch-1 station.journal: {self.town.fronts['birch-1']} touches"
+                          " compared, 0 differences\n"))
         rows = [row.split(",") for row in call("query", "holdings", "--database", base).stdout.splitlines()[1:]]
         wanted = [row for row in self.town.holdings() if row[0] in {int(row[0]) for row in rows}]
         self.assertEqual([tuple(map(int, row)) for row in rows], wanted)

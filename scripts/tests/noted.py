@@ -1,5 +1,5 @@
-"""A server whose calls on its journal and whose answers are noted, whose flushes are slowed down, and which is killed at one of
-its calls: by two libraries that are put before the C library's."""
+"""A server whose calls on its journal and whose answers are noted, whose flushes are slowed down, and which is killed at one
+of its calls: by two libraries that are put before the C library's."""
 import os
 import pathlib
 import tempfile
@@ -95,9 +95,10 @@ class Notes:
     def __init__(self, libraries: Libraries, delay: int, kill_at: int = 0) -> None:
         """Its flushes take so many microseconds more. It is killed before the call of that number, from 1."""
         self.file = tempfile.TemporaryFile("a+b")
-        more = {"LD_PRELOAD": ":".join(libraries.words), "NOTED": self.file.fileno(), "KILL_AT": kill_at, "FLUSH_DELAY": delay}
+        more = {"LD_PRELOAD": ":".join(libraries.words), "NOTED": self.file.fileno(), "KILL_AT": kill_at,
+                "FLUSH_DELAY": delay}
         self.options: dict[str, Any] = {"env": {**os.environ, **{name: str(value) for name, value in more.items()}},
-                        "pass_fds": [self.file.fileno()]}
+                                        "pass_fds": [self.file.fileno()]}
 
     def events(self) -> Iterator[Event]:
         """What it did, in order."""

@@ -17,7 +17,8 @@ VERSION = program.version()
 LOGIC = "logic 0123456789abcdef"
 KIT = f"stand-in-kit {LOGIC}"
 # What a release is made of: of the crates, those whose files a package or its pages are made of.
-PARTS = ("scripts", "packaging", "docs", "clients", "network", "crates/command_line", "crates/gate_send", "crates/tap_server")
+PARTS = ("scripts", "packaging", "docs", "clients", "network", "crates/command_line", "crates/gate_send",
+         "crates/tap_server")
 FILES = (".gitignore", "CHANGELOG.md", "HANDLES", "LICENSE", "NOTICE", "README.md", "SECURITY.md", "VERSION", "crates.txt")
 TOOLS = {"rt": f"echo '{KIT}'", "lintian": "exit 0"}
 SERVER = f"""#!/bin/sh
@@ -46,7 +47,8 @@ Pre-Depends: init-system-helpers (>= 1.54~)
 Depends: libc6 (>= 2.34), libstdc++6, default-mta | mail-transport-agent
 Description: stand-in
 END
-printf '# bovtrila\\n# toolchain\\n# commit: %s%s\\n' "$(git rev-parse HEAD)" "$changed" >"$tree/usr/share/doc/bovtrila/PROVED"
+commit=$(git rev-parse HEAD)
+printf '# bovtrila\\n# toolchain\\n# commit: %s%s\\n' "$commit" "$changed" >"$tree/usr/share/doc/bovtrila/PROVED"
 dpkg-deb --root-owner-group --build "$tree" "$1/bovtrila_{VERSION}-1_amd64.deb" >/dev/null
 rm -r "$tree"
 """

@@ -108,7 +108,8 @@ class ReleaseRefused(ReleaseTest):
 
     def test_a_folder_of_the_working_tree(self) -> None:
         self.to = self.top / "docs" / "release"
-        self.assert_refused(f"{self.to} would be a change of the working tree: name one in out/ or outside of the repository")
+        self.assert_refused(f"{self.to} would be a change of the working tree: name one in out/ or outside of the "
+                            "repository")
 
     def test_a_tag_at_another_commit(self) -> None:
         git(self.top, "tag", f"v{VERSION}")
@@ -244,7 +245,8 @@ class ReleaseContents(ReleaseTest):
 
     def checked(self, file: pathlib.Path, folder: pathlib.Path) -> tuple[int, str]:
         """The status of sha256sum with the digests of a file, in a folder, and what it says."""
-        done = subprocess.run(["sha256sum", "--check", "--strict", "--quiet", "--ignore-missing", file], cwd=folder, text=True,
+        done = subprocess.run(["sha256sum", "--check", "--strict", "--quiet", "--ignore-missing", file], cwd=folder,
+                              text=True,
                               capture_output=True, env={**os.environ, "LC_ALL": "C"})
         return done.returncode, done.stdout
 

@@ -23,8 +23,9 @@ class Server:
         if connections is not None:
             words += ["--connections", str(connections)]
         words += [*more, *map(str, revised)]
-        self.process: subprocess.Popen[bytes] = subprocess.Popen([PROGRAM, *words], stdin=subprocess.DEVNULL, stdout=subprocess.PIPE,
-                                        stderr=subprocess.PIPE, **options)
+        self.process: subprocess.Popen[bytes] = subprocess.Popen([PROGRAM, *words], stdin=subprocess.DEVNULL,
+                                                                 stdout=subprocess.PIPE,
+                                                                 stderr=subprocess.PIPE, **options)
         # The notes that it began with.
         self.notes: list[str] = []
         assert self.process.stderr, "a pipe"

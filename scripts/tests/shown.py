@@ -110,7 +110,8 @@ class Shell:
         # that look on the path find the station's there.
         program, path = self.folder / "scripts" / "bovtrila", self.folder / "bin"
         gate = CRATES / "gate_send" / "out" / "gate_send"
-        program.write_text(f'#!/bin/sh\nif [ "$1" = gate_send ]; then shift; exec "{gate}" "$@"; fi\nexec "{PROGRAM}" "$@"\n')
+        program.write_text(f'#!/bin/sh\nif [ "$1" = gate_send ]; then shift; exec "{gate}" "$@"; fi\n'
+                           f'exec "{PROGRAM}" "$@"\n')
         program.chmod(0o755)
         path.mkdir()
         (path / "bovtrila").symlink_to(program)

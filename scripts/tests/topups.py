@@ -1,5 +1,5 @@
-"""Touches of gates that top cards up, with the replies to them, worked out by the rules of docs/FARES.md: for the scripts that
-kill a server under load."""
+"""Touches of gates that top cards up, with the replies to them, worked out by the rules of docs/FARES.md: for the scripts
+that kill a server under load."""
 from collections.abc import Iterable
 import model
 

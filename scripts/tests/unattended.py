@@ -231,8 +231,9 @@ class Unattended(Stations):
         station.start()
         process = station.pid.read_text()
         status, _, err = station.alone(env=self.free(needed - 1))
-        self.assert_back(station, status, err, f"{station.folder}: {needed - 1} bytes are free, and the new journal and a copy "
-                                               f"of the old one need {needed}: make room. Nothing was changed\n")
+        self.assert_back(station, status, err,
+                         f"{station.folder}: {needed - 1} bytes are free, and the new journal and a copy "
+                         f"of the old one need {needed}: make room. Nothing was changed\n")
         self.assertEqual(station.pid.read_text(), process)
         self.assertEqual(station.alone(env=self.free(needed))[::2], (0, ""))
         self.assert_carried(station, 9)
@@ -276,7 +277,8 @@ class Unattended(Stations):
         start = station.words[station.words.index("--start") + 1]
         seen = station.folder.parent / "seen"
         status, _, err = station.alone(*station.other_start(
-            f"{start}\ntest -e {seen} && exit 0\ntouch {seen}\n{SCRIPT.with_name('gate')} {station.listen} {lines} >{seen} 2>&1\n"
+            f"{start}\ntest -e {seen} && exit 0\ntouch {seen}\n"
+            f"{SCRIPT.with_name('gate')} {station.listen} {lines} >{seen} 2>&1\n"
             "exit 1"))
         self.assertEqual((status, err.count("\n")), (1, 1))
         self.assertIn("; next.journal has 1 touches of gates already, so the server stays on it\n", err)
