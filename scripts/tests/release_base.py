@@ -17,8 +17,8 @@ VERSION = program.version()
 LOGIC = "logic 0123456789abcdef"
 KIT = f"stand-in-kit {LOGIC}"
 # What a release is made of: of the crates, those whose files a package or its pages are made of.
-PARTS = ("scripts", "packaging", "docs", "clients", "network", "crates/command_line", "crates/gate_send",
-         "crates/tap_server")
+PARTS = ("scripts", "packaging", "docs", "clients", "network", "crates/program_options", "crates/command_line",
+         "crates/gate_send", "crates/tap_server")
 FILES = (".gitignore", "CHANGELOG.md", "HANDLES", "LICENSE", "NOTICE", "README.md", "SECURITY.md", "VERSION", "crates.txt")
 TOOLS = {"rt": f"echo '{KIT}'", "lintian": "exit 0"}
 SERVER = f"""#!/bin/sh

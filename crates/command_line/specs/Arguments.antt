@@ -1,6 +1,7 @@
 -- Which command lines are allowed (docs/COMMANDS.md; this project's choice). proofs/Examples.antt
 -- computes the limits.
-use Rattle.std.specs.Prelude.{◌≡◌, ◌≤◌, ℕ, IfSome, length}
+use Rattle.std.specs.Prelude.{◌≡◌, ◌≤◌, IfSome, length}
+use Rattle.program_options.specs.Numbers.{IsWithin}
 use Rattle.command_line.specs.declared.arguments.Arguments.{Arguments}
 use Rattle.command_line.specs.declared.arguments.Arguments.TheVariants as asked
 use Rattle.command_line.specs.declared.arguments.Serve.{Serve}
@@ -17,14 +18,6 @@ use Rattle.command_line.specs.declared.history.History.{History}
 use Rattle.command_line.specs.declared.seal.Seal.{Seal}
 use Rattle.command_line.specs.declared.seal.Sealed.{Sealed}
 use Rattle.command_line.specs.declared.seal.TheConstants.{SEAL_SIZE}
-
--- the number is from the least to the most
-abbrev pub IsBetween : ℕ → ℕ → ℕ → Type 0
-IsBetween least most number = (least ≤ number) × (number ≤ most)
-
--- the number is from 1 to this limit
-abbrev pub IsWithin : ℕ → ℕ → Type 0
-IsWithin limit number = IsBetween 1 limit number
 
 -- a station has 1 to 100,000 cards and a journal of 1 to 1,000,000 touches, and a server 1 to 64
 -- lines; a line is done, if at all, after 1 to 1,000,000 connections, a silent gate is given up, if

@@ -10,11 +10,13 @@ use crate::balances::{Balances, balances_asked};
 use crate::check::{Check, check_asked};
 use crate::commands::{command, command_named, wrong_number};
 use crate::history::{History, history_asked};
-use crate::number::{number_asked, number_given, short_in};
+use crate::number::{number_asked, short_in};
 use crate::seal::{Seal, seal_asked};
 use clap::error::ErrorKind;
 use clap::{ArgMatches, Command, Error};
+use program_options::{NOT_DECIMAL, number_given};
 use std::alloc::{AllocError, Global};
+use std::rt::Env;
 
 /// The most cards that a station has.
 pub const CARDS_LIMIT: u32 = 100_000;
@@ -118,9 +120,6 @@ pub struct Verify<'a> {
     pub gate: Option<u16>,
 }
 
-/// What stands for a number that has a sign.
-const NOT_DECIMAL: &str = "a number is written in the digits 0 to 9 alone";
-
 /// What stands for a seal that is none, or a number that has a sign.
 const NOT_A_SEAL: &str = "a number is written in the digits 0 to 9 alone, a gate's is from 0 to \
 65535, and a seal is a number from 0 to 1000000 and 64 hexadecimal digits";
@@ -136,9 +135,6 @@ digits 0 to 9 alone, and a moment in UTC, as 2025-01-07T08:30:00Z";
 /// What stands for a number of touches that is none.
 const NOT_A_COUNT: &str =
     "a number of touches is from 0 to 1000000, and is written in the digits 0 to 9 alone";
-
-/// The text of Rust's `clap` for this.
-const NOT_UTF8: &str = "invalid UTF-8 was detected in one or more arguments";
 
 /// What is said where the program at hand has the commands over fare tables alone.
 const NOT_HERE: &str =
@@ -200,11 +196,10 @@ fn refused_by(name: &str) -> &'static str {
     }
 }
 
-/// The refusal of a command line with a word that isn't UTF-8.
-pub fn refuse_bytes(alloc: Global) -> Result<Error, Error>
-    ensures { IfOk result (λ error. kind_of error ≡ InvalidValue) }
-{
-    Ok(command(alloc)?.error(ErrorKind::InvalidValue, NOT_UTF8)?)
+/// The words of the command line, the program's name first. One that isn't UTF-8 is refused as a
+/// wrong command line.
+pub fn words_of<R: AllocGlobal + Env>(rt: &R) -> Result<Vec<String>, Error> {
+    program_options::words_of(rt, &mut command(rt.alloc())?)
 }
 
 /// The refusal of a command that the program at hand doesn't have, though `tap_server` has it.

@@ -4,8 +4,8 @@ ghost use Rattle.std.specs.Prelude.{IfSome};
 ghost use Rattle.command_line.specs.Arguments.{IsBalancesAllowed};
 
 use crate::arguments::CAPACITY_LIMIT;
-use crate::number::number_given;
 use clap::ArgMatches;
+use program_options::number_given;
 
 /// What the balances of a journal's cards are asked for.
 #[derive(Debug, PartialEq, Eq, Drop)]

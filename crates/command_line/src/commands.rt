@@ -8,15 +8,11 @@ use self::audits::{BALANCES, HISTORY, VERIFY};
 use self::gates::{CHECK, MIGRATE, REPLAY, SERVE};
 use crate::number::{WrongNumber, wrong_value};
 use clap::{Arg, ArgAction, ArgMatches, Command, Error};
+use program_options::VERSION;
 use std::alloc::{AllocError, Global};
 
 /// The program's name in its help, whatever file it is started from.
 const NAME: &str = "bovtrila";
-
-/// What stands behind the name for `--version`: the program's version, and below it the toolchain
-/// that proved it, by the logic that `rt version` names. Kits of one logic differ by their letter.
-const VERSION: &str = "1.0.0
-proved by Rattle, logic dac8208d650f15bf";
 
 /// What the program does.
 const ABOUT: &str = "Answers the touches of Oyster pay as you go";

@@ -11,9 +11,7 @@ mod history;
 mod number;
 mod seal;
 
-pub use arguments::{
-    Arguments, Migrate, Serve, Verify, arguments_of, refuse_bytes, refuse_command,
-};
+pub use arguments::{Arguments, Migrate, Serve, Verify, arguments_of, refuse_command, words_of};
 pub use balances::Balances;
 pub use check::{Check, Journey};
 pub use history::{History, HistoryFormat};

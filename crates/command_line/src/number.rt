@@ -1,9 +1,10 @@
 //! The numbers that the words of a command line have, each within its limits.
 
 ghost use Rattle.std.specs.Prelude.{◌≤◌, IfSome};
-ghost use Rattle.command_line.specs.Arguments.{IsBetween, IsWithin};
+ghost use Rattle.program_options.specs.Numbers.{IsWithin};
 
 use clap::ArgMatches;
+use program_options::number_in;
 use std::fmt;
 
 /// The value of an option that isn't a number as the option takes it. It prints as why it is
@@ -49,40 +50,10 @@ pub(crate) fn number_asked(matches: &ArgMatches<'_>, name: &str, limit: u32) -> 
     number_in(matches.get_str(name)?, 1, limit)
 }
 
-/// The number that an option has which may be left out. `None` where it is given and isn't from
-/// the least to the most, or isn't written in decimal digits alone.
-pub(crate) fn number_given(
-    matches: &ArgMatches<'_>,
-    name: &str,
-    least: u32,
-    most: u32,
-) -> Option<Option<u32>>
-    ensures { IfSome result (λ given. IfSome given (IsBetween least most)) }
-{
-    match matches.get_str(name) {
-        Some(text) => Some(Some(number_in(text, least, most)?)),
-        None => Some(None),
-    }
-}
-
 /// The number of 16 bits that a text is in decimal digits alone, from the least on.
 pub(crate) fn short_in(text: &str, least: u16) -> Option<u16>
     ensures { IfSome result (λ number. least ≤ number) }
 {
     let number = number_in(text, u32::from(least), u32::from(u16::MAX))?;
     Some(number as u16)
-}
-
-/// The number that a text is in decimal digits alone, from the least to the most: a parser of
-/// numbers takes a sign as well.
-pub(crate) fn number_in(text: &str, least: u32, most: u32) -> Option<u32>
-    ensures { IfSome result (IsBetween least most) }
-{
-    let number = text.parse::<u32>().ok()?;
-    let is_decimal = text.bytes().all(|byte| byte.is_ascii_digit());
-    if is_decimal && least <= number && number <= most {
-        Some(number)
-    } else {
-        None
-    }
 }

@@ -6,9 +6,9 @@ ghost use Rattle.command_line.specs.declared.seal.TheConstants.{SEAL_SIZE};
 ghost use Rattle.command_line.specs.Arguments.{IsSealAllowed, IsSealedAllowed};
 
 use crate::arguments::CAPACITY_LIMIT;
-use crate::number::number_in;
 use clap::ArgMatches;
 use hex::FromHex;
+use program_options::number_in;
 
 /// How many bytes the digest of a seal has.
 pub const SEAL_SIZE: usize = 32;

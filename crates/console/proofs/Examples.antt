@@ -5,6 +5,7 @@ use Rattle.fare_schedule.specs.declared.fault.SupplyFault.TheVariants.{OtherZone
 use Rattle.fare_table.specs.declared.fault.TableFault.TheVariants as tables
 use Rattle.text_io.specs.declared.fault.RunFault.TheVariants as runs
 use Rattle.console.specs.Detail.{no_detail}
+use Rattle.console.specs.declared.files.TheConstants.{TURNS}
 use Rattle.console.specs.Told.{told_trial}
 use Rattle.console.specs.Trial.{trial_fault}
 use Rattle.console.specs.declared.fault.TrialFault.TheVariants.{File, Supply, Station, Run, BadLine}
@@ -22,3 +23,7 @@ a_fault_of_a_trial_is_told_in_one_line :
     × (told_trial (trial_fault tables.Memory) ≡ Some (codes "fault run 1 Memory"))
 unfolding digits
 a_fault_of_a_trial_is_told_in_one_line = (refl, refl, refl, refl, refl, refl, refl, refl, refl)
+
+-- the most reads of a file
+most_reads : TURNS ≡ 1_000_000
+most_reads = refl

@@ -2,7 +2,7 @@
 
 ghost use Rattle.std.specs.Prelude.{◌≡◌, ◌⊎◌, IfOk, IfErr, OnOk, map, option_map};
 ghost use Rattle.std.specs.Process.{exit_status};
-ghost use Rattle.command_line.specs.Arguments.{IsWithin};
+ghost use Rattle.program_options.specs.Numbers.{IsWithin};
 ghost use Rattle.reply_book.specs.declared.book.TheConstants.{CARD_LIMIT};
 ghost use Rattle.table_check.specs.Tables.{AreRefused};
 ghost use Rattle.line_replay.specs.Input.{IsWhole, IsUnasked, HasReplayed, HasEndedEarly};

@@ -4,7 +4,7 @@ mod usage;
 mod verify;
 
 use clap::error::ErrorKind;
-use command_line::{arguments_of, refuse_bytes, refuse_command};
+use command_line::{arguments_of, refuse_command};
 use std::alloc::Global;
 use std::fmt::Debug;
 use std::process::Abort;
@@ -367,12 +367,6 @@ fn a_migration_needs_all_its_options(rt: HostRuntime) {
         "migrate --table fares.toml --from old.journal --to new.journal",
     ];
     assert_refused(&rt, rt.alloc(), &refused);
-}
-
-#[test]
-fn a_word_that_is_no_text_is_a_wrong_command_line(rt: HostRuntime) -> Result<(), Fail> {
-    assert_eq!(rt; refuse_bytes(rt.alloc())?.exit_code(), 2);
-    Ok(())
 }
 
 #[test]
