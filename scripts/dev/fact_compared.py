@@ -129,7 +129,6 @@ FACTS: dict[str, tuple[Place | Read, list[Place]]] = {
         Place("VERSION", r"\A(?P<name>\d+\.\d+\.\d+)\n\Z"), [
             Place("crates/program_options/src/version.rt", r'^pub const VERSION: &str = "(?P<name>[\d.]+)$'),
             Place("crates/command_tests/src/tests/of_command_line.rt", r'"bovtrila (?P<name>[\d.]+)\\nproved'),
-            Place("crates/gate_send/src/arguments.rt", r'^const VERSION: &str = "(?P<name>[\d.]+)$'),
             Place("crates/gate_send/stdout", r"\Agate_send (?P<name>[\d.]+)$"),
             Place("docs/VERSIONS.md", r"^Today's program is version \*\*(?P<name>[\d.]+)\*\*"),
             Place("docs/VERSIONS.md", r"` (?P<name>[\d.]+)", r"^\| File ", r"$"),

@@ -1,16 +1,13 @@
 -- Which command lines are allowed (docs/COMMANDS.md, "gate_send"; this project's choice).
-use Rattle.std.specs.Prelude.{◌≤◌, ℕ, IfSome}
+use Rattle.std.specs.Prelude.{IfSome}
+use Rattle.program_options.specs.Numbers.{IsWithin}
 use Rattle.gate_send.specs.declared.arguments.Arguments.{Arguments}
 
--- the number is at most this limit
-abbrev pub IsWithin : ℕ → ℕ → Type 0
-IsWithin limit number = number ≤ limit
-
--- a new file has room for 1,000,000 touches at most, a touch is given up, if at all, after
--- 1,000,000 tries at most, an answer is waited for an hour at most, and no pause begins with more
--- than 30 s
+-- a new file has room for 1 to 1,000,000 touches, a touch is given up, if at all, after 1 to
+-- 1,000,000 tries, an answer is waited for from 1 ms to an hour, and the first pause is from 1 ms
+-- to 30 s
 pub record IsAllowed (asked : Arguments) : Type 0 where
-  pub capacity : asked.capacity ≤ 1_000_000
+  pub capacity : IsWithin 1_000_000 asked.capacity
   pub tries : IfSome asked.tries (IsWithin 1_000_000)
-  pub timeout : asked.timeout ≤ 3_600_000
-  pub pause : asked.pause ≤ 30_000
+  pub timeout : IsWithin 3_600_000 asked.timeout
+  pub pause : IsWithin 30_000 asked.pause

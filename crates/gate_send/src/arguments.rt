@@ -1,18 +1,15 @@
 //! What the words of the command line ask for, as `clap` reads them.
 
 ghost use Rattle.std.specs.Prelude.{IfOk, IfSome};
-ghost use Rattle.gate_send.specs.Arguments.{IsAllowed, IsWithin};
+ghost use Rattle.gate_send.specs.Arguments.{IsAllowed};
 
 use clap::error::ErrorKind;
 use clap::{Arg, ArgAction, ArgMatches, Command, Error};
+use program_options::{NOT_DECIMAL, VERSION, number_given};
 use std::alloc::{AllocError, Global};
 
 /// The program's name in its help.
 const NAME: &str = "gate_send";
-
-/// What stands behind the name for `--version`.
-const VERSION: &str = "1.0.0
-proved by Rattle, logic dac8208d650f15bf";
 
 /// What the program does.
 const ABOUT: &str =
@@ -73,14 +70,8 @@ pub(crate) const LONGEST_PAUSE: u32 = 30_000;
 /// How many milliseconds the first pause has where none are named.
 const FIRST_PAUSE: u32 = 200;
 
-/// What stands for a number that has a sign.
-const NOT_DECIMAL: &str = "a number is written in the digits 0 to 9 alone";
-
 /// What stands for an address that is none.
 const NOT_AN_ADDRESS: &str = "an address is a host and a port, as 192.168.1.10:7040";
-
-/// The text of Rust's `clap` for this.
-const NOT_UTF8: &str = "invalid UTF-8 was detected in one or more arguments";
 
 /// What the program is asked to do.
 #[derive(Debug, Drop)]
@@ -141,11 +132,11 @@ fn asked_of<'a>(
 fn asked<'a>(matches: &ArgMatches<'a>, addresses: Vec<&'a str>) -> Option<Arguments<'a>>
     ensures { IfSome result IsAllowed }
 {
-    let gate = number_given(matches, "gate", GATE_LIMIT)??;
-    let capacity = number_given(matches, "capacity", CAPACITY_LIMIT)?.unwrap_or(CAPACITY_LIMIT);
-    let tries = number_given(matches, "tries", TRIES_LIMIT)?;
-    let timeout = number_given(matches, "timeout", TIMEOUT_LIMIT)?.unwrap_or(TIMEOUT);
-    let pause = number_given(matches, "pause", LONGEST_PAUSE)?.unwrap_or(FIRST_PAUSE);
+    let gate = number_given(matches, "gate", 0, GATE_LIMIT)??;
+    let capacity = number_given(matches, "capacity", 1, CAPACITY_LIMIT)?.unwrap_or(CAPACITY_LIMIT);
+    let tries = number_given(matches, "tries", 1, TRIES_LIMIT)?;
+    let timeout = number_given(matches, "timeout", 1, TIMEOUT_LIMIT)?.unwrap_or(TIMEOUT);
+    let pause = number_given(matches, "pause", 1, LONGEST_PAUSE)?.unwrap_or(FIRST_PAUSE);
     Some(Arguments {
         gate: gate as u16,
         file: matches.get_str("file")?,
@@ -159,23 +150,6 @@ fn asked<'a>(matches: &ArgMatches<'a>, addresses: Vec<&'a str>) -> Option<Argume
     })
 }
 
-/// The number that an option has which may be left out. `None` where it is given and is above this
-/// limit, or isn't written in decimal digits alone: a parser of numbers takes a sign as well.
-fn number_given(matches: &ArgMatches<'_>, name: &str, limit: u32) -> Option<Option<u32>>
-    ensures { IfSome result (λ given. IfSome given (IsWithin limit)) }
-{
-    let Some(text) = matches.get_str(name) else {
-        return Some(None);
-    };
-    let number = matches.get_one::<u32>(name)?;
-    let is_decimal = text.bytes().all(|byte| byte.is_ascii_digit());
-    if is_decimal && number <= limit {
-        Some(Some(number))
-    } else {
-        None
-    }
-}
-
 /// Whether a text is a host and a port.
 fn is_address(text: &str) -> bool {
     match text.rsplit_once(':') {
@@ -184,13 +158,8 @@ fn is_address(text: &str) -> bool {
     }
 }
 
-/// The refusal of a command line with a word that isn't UTF-8.
-pub(crate) fn refuse_bytes(alloc: Global) -> Result<Error, Error> {
-    Ok(command(alloc)?.error(ErrorKind::InvalidValue, NOT_UTF8)?)
-}
-
 /// The command line of the program.
-fn command<'a>(alloc: Global) -> Result<Command<'a>, Error> {
+pub(crate) fn command<'a>(alloc: Global) -> Result<Command<'a>, Error> {
     let command = Command::new(alloc, NAME)
         .bin_name(NAME)?
         .version(VERSION)

@@ -9,16 +9,17 @@ mod file;
 mod lines;
 mod station;
 
-use crate::arguments::{Arguments, arguments_of};
+use crate::arguments::{Arguments, arguments_of, command};
 use crate::fault::{SendFault, tell_fault};
 use crate::file::gate_file;
 use crate::lines::{Sent, send_lines};
+use program_options::words_of;
 use std::fs::File;
+use std::io;
 use std::net::{Net, TcpListener, TcpStream};
 use std::process::ExitCode;
 use std::rt::{Env, Files};
 use std::time::Clock;
-use std::{env, io};
 
 fn main(rt: HostRuntime) -> io::Result<ExitCode> {
     match run(&rt) {
@@ -39,7 +40,7 @@ fn run<
         + Net<Listener = TcpListener, Stream = TcpStream>
         + Clock,
 >(rt: &R) -> Result<Sent, SendFault> {
-    let words = words_of(rt)?;
+    let words = words_of(rt, &mut command(rt.alloc())?)?;
     let words: Vec<&str> = words.iter().map(|word| word.as_str()).collect(rt.alloc())?;
     let asked = arguments_of(rt.alloc(), words.as_slice())?;
     send(rt, &asked)
@@ -57,13 +58,4 @@ fn send<
 >(rt: &R, asked: &Arguments<'_>) -> Result<Sent, SendFault> {
     let client = gate_file(rt, asked)?;
     send_lines(rt, client, asked)
-}
-
-/// The words of the command line, the program's name first.
-fn words_of<R: AllocGlobal + Env>(rt: &R) -> Result<Vec<String>, SendFault> {
-    match env::args(rt) {
-        Ok(words) => Ok(words.collect(rt.alloc())?),
-        Err(error) if error.kind() == io::ErrorKind::OutOfMemory => Err(SendFault::Memory),
-        Err(_) => Err(SendFault::Line(arguments::refuse_bytes(rt.alloc())?)),
-    }
 }

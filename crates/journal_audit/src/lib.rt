@@ -28,7 +28,7 @@ pub use commands::explanation::{OpenedBy, explained};
 pub use commands::fault::{CommandFault, tell_command_fault};
 pub use commands::history::tell_history;
 pub use commands::journals::{explained_balances, explained_history, explained_verify};
-pub use commands::output::{Output, PIPE_STATUS, ended_by};
+pub use commands::output::{PIPE_STATUS, ended_by};
 pub use commands::verify::verify_journal;
 pub use fault::{AuditFault, GateFault, HeaderFault, SealFault};
 pub use gate_file::audit_gate_file;

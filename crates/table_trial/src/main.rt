@@ -2,8 +2,8 @@
 //! journal and without a server. It reads its command line, calls what is proved, and prints.
 #![tactic(auto)]
 
-use command_line::{Arguments, Check, arguments_of, refuse_command};
-use console::{SystemFiles, TrialFault, tell_fault, words_of};
+use command_line::{Arguments, Check, arguments_of, refuse_command, words_of};
+use console::{SystemFiles, TrialFault, tell_fault};
 use line_replay::replay_input;
 use std::io;
 use std::process::ExitCode;

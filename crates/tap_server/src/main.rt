@@ -3,10 +3,10 @@
 //! stated function of what is read.
 #![tactic(auto)]
 
-use command_line::{Arguments, Check, arguments_of};
-use console::{SystemFiles, words_of};
+use command_line::{Arguments, Check, arguments_of, words_of};
+use console::{Output, SystemFiles};
 use journal_audit::{
-    CommandFault, Output, ended_by, explained_balances, explained_history, explained_verify,
+    CommandFault, ended_by, explained_balances, explained_history, explained_verify,
     tell_command_fault,
 };
 use journal_service::{System, explained_migrate, serve_gates, standard_files};

@@ -1,4 +1,4 @@
-//! Standard output, and why it doesn't take what is written.
+//! How a command ends whose standard output refuses a write.
 
 ghost use Rattle.std.specs.Prelude.{◌≡◌, IfErr, IfOk};
 ghost use Rattle.std.specs.Process.{exit_status};
@@ -9,58 +9,12 @@ ghost use Rattle.journal_audit.specs.declared.commands.output.TheConstants.{PIPE
 use crate::commands::fault::CommandFault;
 use console::{Detail, Refusal, TrialFault};
 use std::alloc::Global;
-use std::io;
-use std::io::Write;
 use std::process::ExitCode;
 use text_io::RunFault;
 
 /// The status of a command whose output goes to a pipe that nobody reads any more: that of a tool
 /// of the shell, which the signal SIGPIPE ends.
 pub const PIPE_STATUS: u8 = 141;
-
-/// A writer that notes why the system refused the last write that it did. It is that writer.
-#[derive(Drop)]
-pub struct Output<W> {
-    writer: W,
-    refusal: Option<Refusal>,
-}
-
-impl<W: Write + Drop> Output<W> {
-    /// This writer, which has refused nothing.
-    pub fn over(writer: W) -> Output<W>
-        ensures { W.contents result.writer ≡ W.contents writer }
-    {
-        Output {
-            writer,
-            refusal: None,
-        }
-    }
-
-    /// Why it refused the last write that it did, where it refused one.
-    pub fn refusal(&self) -> Option<Refusal> {
-        self.refusal
-    }
-}
-
-impl<W: Write + Drop> Write for Output<W> {
-    ghost contents = { λ output. W.contents output.writer };
-
-    fn write(&mut self, buf: &[u8]) -> io::Result<usize> {
-        let taken = self.writer.write(buf);
-        if let Err(error) = &taken {
-            self.refusal = Some(Refusal::of(error));
-        }
-        taken
-    }
-
-    fn flush(&mut self) -> io::Result<()> {
-        let flushed = self.writer.flush();
-        if let Err(error) = &flushed {
-            self.refusal = Some(Refusal::of(error));
-        }
-        flushed
-    }
-}
 
 /// How a command ends that wasn't done for this fault, where standard output refused a write for
 /// this reason. Where it was a failed write to a pipe that nobody reads any more, the command ends

@@ -1,6 +1,6 @@
 //! The files of the system, and what is said of one that isn't had.
 use super::{assert_same_at, told};
-use console::{Detail, Refusal, SystemFiles, WholeFiles, open_refusal, words_of};
+use console::{Detail, Refusal, SystemFiles, WholeFiles, open_refusal};
 use std::io;
 use std::test::Fail;
 
@@ -50,12 +50,5 @@ fn what_is_told_names_its_file(rt: HostRuntime) -> Result<(), Fail> {
     assert_same_at(&rt, Detail::none().line(), None, "nothing");
     let detail = Detail::of(rt.alloc(), "a.toml", &"why");
     assert_same_at(&rt, detail.line(), Some("  a.toml: why"), "a file");
-    Ok(())
-}
-
-#[test]
-fn the_first_word_is_the_programs(rt: HostRuntime) -> Result<(), Fail> {
-    let words = words_of(&rt)?;
-    assert_same_at(&rt, words.is_empty(), false, "words");
     Ok(())
 }
