@@ -1,12 +1,16 @@
 //! What a client writes of its touch, and reads of an answer (docs/PROTOCOL.md, "Frames").
-ghost use Rattle.std.specs.Prelude.{◌≡◌, ◌≤◌, ℕ, Result, Err, IfOk, IfErr, IfSome, take};
+ghost use Rattle.std.specs.Prelude.{◌≡◌, ◌≤◌, ◌<◌, ◌^◌, ℕ, ℤ, List, ◌++◌, Some, Result, Ok, Err};
+ghost use Rattle.std.specs.Prelude.{IfOk, IfErr, IfSome, IsSomeAnd, take};
+ghost use Rattle.std.specs.Int.{w64, to_be_bytes, cast_unsigned};
+ghost use Rattle.std.specs.Int.RustNames.{FitsSigned};
 ghost use Rattle.std.specs.Io.KnownBytes.{Consumes};
 ghost use Rattle.oyster_account.specs.declared.touch.TheConstants.{TOUCH_SIZE};
+ghost use Rattle.oyster_account.specs.declared.reply.Reply.{Reply};
 ghost use Rattle.oyster_account.specs.Touch.{Fits};
 ghost use Rattle.gate_session.specs.declared.answer.Answer.TheVariants as answers;
 ghost use Rattle.gate_session.specs.declared.frame.TheConstants.{ANSWER_SIZE, REQUEST_SIZE};
-ghost use Rattle.gate_session.specs.Answers.{answer_frame};
-ghost use Rattle.text_io.specs.Writing.{Wrote};
+ghost use Rattle.gate_session.specs.Answers.{AnswerFits, answer_frame};
+ghost use Rattle.text_io.specs.Writing.{IsBeginning, Wrote};
 ghost use Rattle.gate_client.specs.Heard.{frame_of, IsSent, IsUnder};
 
 use crate::{HearFault, LineFault};
@@ -34,7 +38,7 @@ pub(crate) fn write_touch<W: Write>(writer: &mut W, touch: &Touch) -> Result<(),
 }
 
 /// Writes the frame of a touch to the front of `frame`, and answers how many bytes it has.
-fn write_frame(touch: &Touch, frame: &mut [u8; REQUEST_SIZE]) -> usize
+pub(crate) fn write_frame(touch: &Touch, frame: &mut [u8; REQUEST_SIZE]) -> usize
     ensures within { result ≤ REQUEST_SIZE }
     ensures written { take result frame.new ≡ frame_of touch.now }
 
@@ -87,9 +91,32 @@ pub(crate) fn read_frame<R: Read>(reader: &mut R, frame: &mut [u8; ANSWER_SIZE])
     Some(LENGTH_SIZE + size)
 }
 
+/// The answer to a touch whose frame these bytes begin with. `None` where they begin with none.
+pub(crate) fn answer_at(bytes: &[u8]) -> Option<Answer>
+    ensures some { IfSome result (λ answer. IsBeginning (answer_frame answer) bytes.now) }
+    ensures reply { (gate number : ℕ) (reply : Reply) (rest : List ℕ)
+        → AnswerFits (answers.Reply gate number reply)
+        → bytes.now ≡ answer_frame (answers.Reply gate number reply) ++ rest
+        → result ≡ Some (answers.Reply gate number reply) }
+    ensures fault { (code gate number : ℕ) (rest : List ℕ)
+        → AnswerFits (answers.Fault code gate number)
+        → bytes.now ≡ answer_frame (answers.Fault code gate number) ++ rest
+        → result ≡ Some (answers.Fault code gate number) }
+{
+    let (length, _rest) = read_u16(bytes)?;
+    let frame = bytes.get(..LENGTH_SIZE + length as usize)?;
+    answer_in(frame)
+}
+
 /// The answer to a touch whose frame these bytes are. `None` where they are no such frame.
 fn answer_in(frame: &[u8]) -> Option<Answer>
-    ensures { IfSome result (λ answer. frame.now ≡ answer_frame answer) }
+    ensures some { IfSome result (λ answer. frame.now ≡ answer_frame answer) }
+    ensures reply { (gate number : ℕ) (reply : Reply) → AnswerFits (answers.Reply gate number reply)
+        → frame.now ≡ answer_frame (answers.Reply gate number reply)
+        → result ≡ Some (answers.Reply gate number reply) }
+    ensures fault { (code gate number : ℕ) → AnswerFits (answers.Fault code gate number)
+        → frame.now ≡ answer_frame (answers.Fault code gate number)
+        → result ≡ Some (answers.Fault code gate number) }
 {
     let answer = if frame.len() == ANSWER_SIZE {
         reply_in(frame)?
@@ -101,7 +128,8 @@ fn answer_in(frame: &[u8]) -> Option<Answer>
 
 /// This answer, where these bytes are its whole frame.
 pub(crate) fn whole(frame: &[u8], answer: Answer) -> Option<Answer>
-    ensures { IfSome result (λ given. (given ≡ answer) × (frame.now ≡ answer_frame given)) }
+    ensures some { IfSome result (λ given. (given ≡ answer) × (frame.now ≡ answer_frame given)) }
+    ensures all { frame.now ≡ answer_frame answer → result ≡ Some answer }
 {
     let mut written = [0; ANSWER_SIZE];
     let size = answer.write_into(&mut written);
@@ -113,27 +141,35 @@ pub(crate) fn whole(frame: &[u8], answer: Answer) -> Option<Answer>
 }
 
 /// The reply whose fields stand behind a length and a kind.
-fn reply_in(frame: &[u8]) -> Option<Answer> {
+fn reply_in(frame: &[u8]) -> Option<Answer>
+    ensures again { (gate number : ℕ) (reply : Reply) → AnswerFits (answers.Reply gate number reply)
+        → frame.now ≡ answer_frame (answers.Reply gate number reply)
+        → result ≡ Some (answers.Reply gate number reply) }
+{
     let (_length, rest) = read_u16(frame)?;
     let (_kind, rest) = rest.split_first()?;
     let (gate, rest) = read_u16(rest)?;
     let (number, rest) = read_u32(rest)?;
     let (verdict, rest) = rest.split_first()?;
     let (change, rest) = read_i32(rest)?;
-    let (balance, _rest) = rest.split_first_chunk::<8>()?;
+    let (balance, _rest) = read_i64(rest)?;
     Some(Answer::Reply {
         gate,
         number,
         reply: Reply {
             verdict: *verdict,
             change,
-            balance: i64::from_be_bytes(*balance),
+            balance,
         },
     })
 }
 
 /// The fault whose fields stand behind a length and a kind.
-pub(crate) fn fault_in(frame: &[u8]) -> Option<Answer> {
+pub(crate) fn fault_in(frame: &[u8]) -> Option<Answer>
+    ensures again { (code gate number : ℕ) → AnswerFits (answers.Fault code gate number)
+        → frame.now ≡ answer_frame (answers.Fault code gate number)
+        → result ≡ Some (answers.Fault code gate number) }
+{
     let (_length, rest) = read_u16(frame)?;
     let (_kind, rest) = rest.split_first()?;
     let (code, rest) = rest.split_first()?;
@@ -144,6 +180,29 @@ pub(crate) fn fault_in(frame: &[u8]) -> Option<Answer> {
         gate,
         number,
     })
+}
+
+/// The number of 64 bits and of two's complement in the first eight bytes, and the bytes after it.
+/// `None` where there are fewer.
+fn read_i64(bytes: &[u8]) -> Option<(i64, &[u8])>
+    ensures { (n : ℤ) (rest : List ℕ) → FitsSigned w64 n
+        → bytes.now ≡ to_be_bytes w64 (cast_unsigned w64 n) ++ rest
+        → IsSomeAnd result (λ p. (p.0 ≡ n) × (p.1.now ≡ rest)) }
+{
+    let (number, rest) = read_u64(bytes)?;
+    Some((number.cast_signed(), rest))
+}
+
+/// The number in the first eight bytes, and the bytes after it. `None` where there are fewer.
+fn read_u64(bytes: &[u8]) -> Option<(u64, &[u8])>
+    ensures { (n : ℕ) (rest : List ℕ) → n < 2 ^ 64 → bytes.now ≡ to_be_bytes w64 n ++ rest
+        → IsSomeAnd result (λ p. (p.0 ≡ n) × (p.1.now ≡ rest)) }
+{
+    let [a, b, c, d, e, f, g, h, rest @ ..] = bytes else {
+        return None;
+    };
+    let number = u64::from_be_bytes([*a, *b, *c, *d, *e, *f, *g, *h]);
+    Some((number, rest))
 }
 
 /// What an answer says of a touch: the reply that is under its gate and number.
@@ -157,6 +216,12 @@ pub(crate) fn reply_to(touch: &Touch, answer: &Answer) -> Result<Reply, HearFaul
     ensures stray { result ≡ Err HearFault.Stray
         → IsUnder touch.now.gate touch.now.number answer.now → ⊥ }
     ensures some { result ≡ Err HearFault.NoAnswer → ⊥ }
+
+    // An answer under its gate and number is what is said of it.
+    ensures heard { (reply : Reply)
+        → answer.now ≡ answers.Reply touch.now.gate touch.now.number reply → result ≡ Ok reply }
+    ensures told { (code : ℕ) → answer.now ≡ answers.Fault code touch.now.gate touch.now.number
+        → result ≡ Err (HearFault.Refused code) }
 {
     match answer {
         Answer::Reply {
