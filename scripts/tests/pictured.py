@@ -30,12 +30,14 @@ class Pictures(unittest.TestCase):
             for match in SHOWN.finditer(page.read_text()):
                 if match["path"].endswith(".svg"):
                     found.setdefault((page.parent / match["path"]).resolve(), set()).add(match["alt"])
-        told = {file.with_suffix(".svg"): {re.findall(r"^alt: (.*)$", file.read_text(), re.M)[0]} for file in FOLDER.glob("*.txt")}
+        told = {file.with_suffix(".svg"): {re.findall(r"^alt: (.*)$", file.read_text(), re.M)[0]}
+                for file in FOLDER.glob("*.txt")}
         self.assertEqual(found, told)
 
     def test_a_text_that_was_changed_or_is_wrong_is_seen(self) -> None:
         for old, new, said in (
-                ("number 3\n", "number 4\n", "docs/pictures/lost-answer.svg\npictures: these aren't the ones of their texts"),
+                ("number 3\n", "number 4\n",
+                 "docs/pictures/lost-answer.svg\npictures: these aren't the ones of their texts"),
                 ("1 > 2: touch", "1 to 2: touch", "lost-answer.txt: '1 to 2: touch in, number 3' is no line of a sequence"),
                 ("form: sequence", "form: series", "lost-answer.txt: 'series' is no form of a picture; choose sequence, ")):
             with self.subTest(new), tempfile.TemporaryDirectory() as tree:
