@@ -2,3 +2,9 @@ mod DayLists
 mod NamedCapLemmas
 mod StatementLemmas
 mod Examples
+mod GatheredLemmas
+mod RunLemmas
+mod DayRowLemmas
+mod RowDayLemmas
+mod CountLemmas
+mod KnownLemmas

@@ -30,7 +30,7 @@ use Rattle.card_statement.proofs.DayLists.{AreDistinct, one_day, add-distinct, c
 use Rattle.oyster_account.proofs.LawLemmas.{incomplete-missing}
 
 -- these days are among those
-abbrev AreAmong : List ℤ → List ℤ → Type 0
+abbrev pub AreAmong : List ℤ → List ℤ → Type 0
 AreAmong days [] = Unit {0}
 AreAmong days (d ∷ ds) = (has_day d days ≡ true) × AreAmong days ds
 
@@ -266,14 +266,14 @@ module _ (scheme : Scheme) where
       filter-distinct (has_row (journeys scheme taps) (incompletes scheme None taps)) (tap_days taps)
       (taps-distinct taps)
 
-  journeys-rows : (taps : List Tap) → AreAmong (row_days scheme taps) (map journey_day (journeys scheme taps))
+  pub journeys-rows : (taps : List Tap) → AreAmong (row_days scheme taps) (map journey_day (journeys scheme taps))
   journeys-rows taps =
       let made : List Journey = journeys scheme taps in
       let rows : List Incomplete = incompletes scheme None taps in
       filter-among (has_row made rows) (tap_days taps) (map journey_day made) (journeys-among taps)
       (λ d is. or_first (has_day d (map journey_day made)) (has_day d (map incomplete_day rows)) is)
 
-  incompletes-rows : (taps : List Tap) →
+  pub incompletes-rows : (taps : List Tap) →
       AreAmong (row_days scheme taps) (map incomplete_day (incompletes scheme None taps))
   incompletes-rows taps =
       let made : List Journey = journeys scheme taps in

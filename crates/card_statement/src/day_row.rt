@@ -1,6 +1,7 @@
 //! The row of one fare day.
 
-ghost use Rattle.std.specs.Prelude.{◌≡◌, ◌≤◌, map, sum_by, length, IfOk, Option};
+ghost use Rattle.std.specs.Prelude.{◌≡◌, ◌≤◌, ◌+◌, ◌*◌, ◌^◌, map, sum_by, length, IfOk};
+ghost use Rattle.std.specs.Prelude.{Option};
 ghost use Rattle.fare_table.specs.declared.rows.Cap.{Cap};
 ghost use Rattle.oyster_account.specs.declared.card.TheConstants.{HISTORY_LIMIT};
 ghost use Rattle.card_statement.specs.NamedCap.{is_covered_by};
@@ -29,6 +30,8 @@ impl Day {
         requires incompletes { length incompletes.now ≤ HISTORY_LIMIT }
         ensures row { IfOk result (λ row.
             content_of_day row ≡ row_of_day caps.now journeys.now incompletes.now day) }
+        ensures limit { IfOk result (λ row.
+            row.charge + row.missing ≤ 2 ^ 32 * (length journeys.now + length incompletes.now)) }
     {
         let cap = applied_cap(caps, journeys);
         Ok(Day {
@@ -86,6 +89,7 @@ fn copy_of(alloc: Global, incompletes: &[Incomplete]) -> Result<Vec<Incomplete>,
 fn missing_of(incompletes: &[Incomplete]) -> u64
     requires few { length incompletes.now ≤ HISTORY_LIMIT }
     ensures value { result ≡ sum_by pence_missing incompletes.now }
+    ensures limit { result ≤ 2 ^ 32 * length incompletes.now }
 {
     let mut sum = 0;
     for incomplete in incompletes {

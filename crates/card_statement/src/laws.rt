@@ -2,6 +2,7 @@
 
 ghost use Rattle.card_statement.specs.Laws.{DoDaysSum, IsStatementBalance, DoesCapAttain};
 ghost use Rattle.card_statement.specs.Laws.{IsDayExplained};
+ghost use Rattle.card_statement.specs.Known.{IsAcceptedKnown, IsHistoryReady};
 
 /// The rows of the fare days, with their incomplete touches, sum to the charge for the card's
 /// travel.
@@ -24,4 +25,15 @@ pub fn named_cap_attains()
 /// the journeys that the row marks as not covered.
 pub fn day_is_explained()
     ensures { IsDayExplained }
+{}
+
+/// An act that the account's rules accept is at a known station, or at none.
+pub fn accepted_is_known()
+    ensures { IsAcceptedKnown }
+{}
+
+/// If each touch of a card has the reply of the account's rules, the card's accepted travel is in
+/// order and of known stations, as [`Statement::of`](crate::Statement::of) requires it.
+pub fn judged_history_is_ready()
+    ensures { IsHistoryReady }
 {}

@@ -3,12 +3,18 @@
 #![tactic(auto)]
 
 mod day_row;
+mod gathered;
 mod laws;
+mod making;
 mod named_cap;
 mod rules;
+mod runs;
 mod statement;
 
-pub use laws::{day_is_explained, days_sum_to_the_charge, named_cap_attains, statement_balances};
+pub use laws::{
+    accepted_is_known, day_is_explained, days_sum_to_the_charge, judged_history_is_ready,
+    named_cap_attains, statement_balances,
+};
 pub use statement::{Day, Incomplete, JourneyRow, Reason, Statement, TopUp};
 
 #[cfg(test)]

@@ -1,6 +1,6 @@
 //! The charge for the journeys of one fare day, and the cap that a statement names for the day.
 
-ghost use Rattle.std.specs.Prelude.{◌≡◌, ◌≤◌, sum_by, length};
+ghost use Rattle.std.specs.Prelude.{◌≡◌, ◌≤◌, ◌*◌, ◌^◌, sum_by, length};
 ghost use Rattle.oyster_account.specs.declared.card.TheConstants.{HISTORY_LIMIT};
 ghost use Rattle.oyster_account.specs.Journey.{pence_of};
 ghost use Rattle.oyster_account.specs.Charge.{capped, day_charge};
@@ -14,6 +14,7 @@ use oyster_account::Journey;
 pub(crate) fn day_charge(caps: &[Cap], journeys: &[Journey]) -> u64
     requires few { length journeys.now ≤ HISTORY_LIMIT }
     ensures value { result ≡ day_charge caps.now journeys.now }
+    ensures limit { result ≤ 2 ^ 32 * length journeys.now }
 {
     let mut least = fares_of(journeys);
     for cap in caps {
@@ -44,6 +45,7 @@ pub(crate) fn applied_cap(caps: &[Cap], journeys: &[Journey]) -> Option<Cap>
 pub(crate) fn fares_of(journeys: &[Journey]) -> u64
     requires few { length journeys.now ≤ HISTORY_LIMIT }
     ensures value { result ≡ sum_by pence_of journeys.now }
+    ensures limit { result ≤ 2 ^ 32 * length journeys.now }
 {
     let mut sum = 0;
     for journey in journeys {

@@ -1,0 +1,10 @@
+use Rattle.std.proofs.Common.{◌≡◌, ◌≤◌, ◌+◌, ◌*◌, ◌^◌, sum_by, drop}
+use Rattle.card_statement.specs.Statement.{pence_in_row}
+use Rattle.card_statement.proofs.making.paid_in.Given as goal
+
+-- the sum so far and that of the top-ups that are left are the sum of all
+abbrev pub invariant-loop-top_up : goal.invariant-loop-top_up
+invariant-loop-top_up l = record {
+  all : l.sum + sum_by pence_in_row (drop l.top_up-index l.top_ups) ≡ sum_by pence_in_row l.top_ups;
+  limit : l.sum ≤ 2 ^ 32 * l.top_up-index;
+}
