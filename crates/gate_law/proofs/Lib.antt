@@ -26,3 +26,4 @@ pub mod SettledLemmas
 pub mod StartLemmas
 pub mod ClientLemmas
 pub mod ClientRunLemmas
+pub mod AtOnceLemmas

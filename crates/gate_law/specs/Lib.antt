@@ -13,6 +13,7 @@ pub mod Gate
 pub mod Calls
 pub mod Station
 pub mod BookClerk
+pub mod AtOnce
 pub mod Sessions
 pub mod Settled
 pub mod Shown

@@ -136,7 +136,7 @@ fn enter(book: &mut Book, touch: &Touch) -> Result<Reply, FaultCode>
 }
 
 /// The answer, whose numbers are of their types.
-fn fitting(answer: Answer) -> Answer
+pub(crate) fn fitting(answer: Answer) -> Answer
     ensures same { result ≡ answer }
     ensures fits { AnswerFits answer }
 {

@@ -11,6 +11,8 @@ ghost use Rattle.gate_client.specs.Client.{HasAsked, gate_of, waits_of, is_stopp
 ghost use Rattle.gate_law.specs.Whole.{Gate, Whole};
 ghost use Rattle.gate_law.specs.Shown.{IsShownBy, blank};
 ghost use Rattle.gate_law.specs.ClientRuns.{gone_in};
+ghost use Rattle.reply_book.specs.declared.book.Book.{Book};
+ghost use Rattle.gate_law.specs.AtOnce.{DoesReply, IsReady};
 
 use crate::book_clerk::BookClerk;
 use gate_client::Client;
@@ -56,6 +58,13 @@ pub fn books_keep_stations(clerk: &BookClerk)
 {
     clerk.learn();
 }
+
+/// The clerk of a book with which nothing goes wrong replies to the touch: so `settle_at_once` is
+/// Ok with it.
+pub fn ready_books_reply()
+    ensures { (book : Book) (touch : Touch) → IsReady book touch
+        → DoesReply ⟦<BookClerk as Clerk>⟧.gives book touch }
+{}
 
 /// A client that has kept no touch and the clerk of a book with no entry are where the law of
 /// `gate_law` begins: so gate and station agree after any number of runs from there.

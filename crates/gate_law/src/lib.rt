@@ -7,6 +7,7 @@
 //! gate's file.
 #![tactic(auto)]
 
+mod at_once;
 mod book_clerk;
 mod client_steps;
 mod laws;
@@ -14,6 +15,7 @@ mod laws_of_all;
 mod laws_of_calls;
 mod round;
 
+pub use at_once::settle_at_once;
 pub use book_clerk::BookClerk;
 pub use client_steps::{ask_in_steps, crash_in_steps, hear_in_steps, open_in_steps, send_in_steps};
 pub use laws::{gate_and_station_agree, lines_bring_the_first, none_is_idle};
@@ -22,6 +24,7 @@ pub use laws_of_all::{
 };
 pub use laws_of_calls::{
     a_gate_leaves_the_others, asking_is_a_step, books_keep_stations, hearing_is_a_step,
-    new_clients_are_blank, new_ones_start, opening_is_a_step, sending_is_a_step, sessions_are_runs,
+    new_clients_are_blank, new_ones_start, opening_is_a_step, ready_books_reply, sending_is_a_step,
+    sessions_are_runs,
 };
 pub use round::{Carried, SettleFault, TouchFault, ask_and_settle, settle};
