@@ -8,3 +8,4 @@ mod DayRowLemmas
 mod RowDayLemmas
 mod CountLemmas
 mod KnownLemmas
+mod ReadyLemmas

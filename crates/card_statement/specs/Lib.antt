@@ -6,3 +6,4 @@ pub mod Laws
 pub mod Gathered
 pub mod Runs
 pub mod Known
+pub mod Ready

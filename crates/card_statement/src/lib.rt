@@ -7,6 +7,7 @@ mod gathered;
 mod laws;
 mod making;
 mod named_cap;
+mod ready;
 mod rules;
 mod runs;
 mod statement;

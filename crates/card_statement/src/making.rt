@@ -32,8 +32,8 @@ impl Statement {
     /// Touches of other cards and refused touches count for nothing.
     ///
     /// The card's accepted travel is in order and of known stations, as it is if the replies are
-    /// those of the account's rules. It takes one walk over the touches, and for each day one walk
-    /// over its journeys for each cap.
+    /// those of the account's rules; [`Statement::is_ready`] checks a history of other origin. It
+    /// takes one walk over the touches, and for each day one walk over its journeys for each cap.
     pub fn of(
         alloc: Global,
         schedule: &Schedule,

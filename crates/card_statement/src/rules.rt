@@ -24,6 +24,16 @@ pub(crate) fn counts_for(card: u32, judged: &Judged) -> bool
     !judged.touch.is_revision() && judged.touch.card == card && judged.reply.is_accepted()
 }
 
+/// Whether the station of a passage is known.
+pub(crate) fn is_known(schedule: &Schedule, passage: Passage) -> bool
+    ensures { result ≡ true → IsKnown (scheme_of schedule.now) passage }
+{
+    match schedule.on(passage.stamp.day).station(passage.station) {
+        Some(_) => true,
+        None => false,
+    }
+}
+
 /// Whether a touch out comes within the limit of a leg from a touch in. Both stations are known.
 pub(crate) fn is_in_time(schedule: &Schedule, start: Passage, finish: Passage) -> bool
     requires start { IsKnown (scheme_of schedule.now) start }
