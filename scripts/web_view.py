@@ -140,7 +140,7 @@ class Pages:
         """The page of the server now and of today."""
         day = day if day and now and day.day == now.day else None
         return self.rendered(
-            "station.html", refreshes=self.every if is_refreshed else None, now=now, day=day, trouble=trouble,
+            "station.html.jinja", refreshes=self.every if is_refreshed else None, now=now, day=day, trouble=trouble,
             warnings=[*(now.warnings if now else ()), *(day.notes if day else ())],
             slots=slots_in_words(now) if now else None, gates=gate_rows(now, day) if now else [],
             chart=chart(day.touches["in"], day.touches["out"]) if day else None, quarters=quarters(day) if day else [],
@@ -152,7 +152,7 @@ class Pages:
         """The page of a card, or of the question which card."""
         rows = [(self.clock(row.moment), row.act, self.stations.named(row.station) if row.station else "", str(row.gate),
                  str(row.number), row.verdict, row.change, row.balance) for row in found.rows] if found else []
-        return self.rendered("card.html", refreshes=None, number=number, found=found, rows=rows, fault=fault,
+        return self.rendered("card.html.jinja", refreshes=None, number=number, found=found, rows=rows, fault=fault,
                              command=command)
 
     def style(self) -> str:
