@@ -23,6 +23,19 @@ fn assert_frame(rt: &impl Abort, client: &Client<MemoryDisk>, row: &Row) {
     assert_same_at(rt, is, true, row);
 }
 
+/// What the touch that waits is answered by as many of these bytes.
+fn hear_of(
+    rt: &impl Abort,
+    client: &mut Client<MemoryDisk>,
+    bytes: &[u8],
+    size: usize,
+) -> Result<Reply, HearFault> {
+    match bytes.get(..size) {
+        Some(front) => hear_in(rt, client, front),
+        None => panic!(rt; "fewer bytes"),
+    }
+}
+
 /// That of the row's answer nothing is heard where it is cut, and then the reply, with bytes behind
 /// the answer or none.
 fn assert_heard(rt: &impl Abort, client: &mut Client<MemoryDisk>, row: &Row, more: usize) {
@@ -30,11 +43,12 @@ fn assert_heard(rt: &impl Abort, client: &mut Client<MemoryDisk>, row: &Row, mor
     for (to, from) in bytes.iter_mut().zip(row.answer.iter()) {
         *to = *from;
     }
-    for cut in 0..row.answer.len() {
-        let none = hear_in(rt, client, &bytes[..cut]);
+    let size = row.answer.len();
+    for cut in 0..size {
+        let none = hear_of(rt, client, &bytes, cut);
         assert_same_at(rt, none, Err(HearFault::NoAnswer), row);
     }
-    let reply = hear_in(rt, client, &bytes[..row.answer.len() + more]);
+    let reply = hear_of(rt, client, &bytes, size.saturating_add(more));
     assert_same_at(rt, reply, Ok(row.reply), row);
     assert_waits(rt, client, None);
 }

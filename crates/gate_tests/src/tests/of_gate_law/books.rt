@@ -8,7 +8,7 @@ ghost use Rattle.gate_client.specs.Client.{HasAsked, gate_of};
 ghost use Rattle.gate_law.specs.Settled.{IsSettled};
 
 use super::*;
-use gate_law::{BookClerk, books_keep_stations};
+use gate_law::{BookClerk, books_keep_stations, settle_at_once};
 use oyster_account::{CardState, CardView};
 use reply_book::Book;
 
@@ -39,6 +39,20 @@ fn asked_by_book<R: Abort + Wait>(
     ask_and_settle(rt, alloc, client, clerk, card, act, carried)
 }
 
+/// What comes of the row's touch over a line that brings every byte.
+fn asked_at_once<R: Abort + Wait>(
+    rt: &R,
+    client: &mut Client<MemoryDisk>,
+    clerk: &mut BookClerk,
+    touch: &Touch,
+) -> Result<Reply, HearFault> {
+    let Touch { card, act, .. } = *touch;
+    match client.ask(card, act) {
+        Ok(_) => settle_at_once(rt, client, clerk),
+        Err(_) => panic!(rt; "a touch that isn't kept"),
+    }
+}
+
 /// That the clerk's book has as many entries.
 fn assert_entered(rt: &impl Abort, clerk: BookClerk, entered: u32) {
     let book = clerk.close();
@@ -59,6 +73,18 @@ fn a_book_settles_each_touch(rt: HostRuntime) {
         balance: 1100,
     };
     assert_same(&rt, clerk.enquire(1), Answer::Holding { view, front: 3 });
+    drop(client);
+    assert_entered(&rt, clerk, 3);
+}
+
+#[test]
+fn a_book_settles_each_touch_at_once(rt: HostRuntime) {
+    let mut client = new_client(&rt, rt.alloc());
+    let mut clerk = new_clerk(&rt, rt.alloc());
+    for row in &ROWS {
+        let reply = asked_at_once(&rt, &mut client, &mut clerk, &row.touch);
+        assert_same_at(&rt, reply, Ok(row.reply), row);
+    }
     drop(client);
     assert_entered(&rt, clerk, 3);
 }
