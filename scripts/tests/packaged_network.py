@@ -62,7 +62,10 @@ class NetworkPackage(Package):
         packages = {"psycopg2": "Depends", "distributed": "Suggests", "dask": "Suggests"}
         named = {"psycopg2": "python3-psycopg2", "distributed": "python3-distributed", "dask": "python3-distributed"}
         folder = self.network / "usr" / "share" / "bovtrila" / "network"
-        own = {path.stem for path in folder.glob("*.py")}
+        # The page of a day takes its sections from the station's package.
+        station = self.tree / "usr" / "share" / "bovtrila" / "scripts"
+        self.assertRegex(self.field("Depends"), r"\bbovtrila \(= ")
+        own = {path.stem for path in (*folder.glob("*.py"), *station.glob("day_*.py"))}
         imported = {name for path in folder.iterdir() if path.is_file() and path.suffix != ".sql"
                     for name in re.findall(r"^ *(?:import|from) (\w+)", path.read_text(), re.M)}
         self.assertEqual(imported - own - sys.stdlib_module_names, set(packages))
