@@ -1,4 +1,4 @@
--- Worked statements, computed by the definitions: those of docs/FARES.md, "Statement", and of the touches of its
+-- Worked statements, computed by the definitions: those of FARES.md, "Statement", and of the touches of its
 -- "Worked examples".
 use Rattle.std.proofs.Common.{◌≡◌, refl, ℕ, ℤ, pos, ◌+◌, ◌*◌, ◌++◌, true, false, Bool, List, [], ◌∷◌}
 use Rattle.std.proofs.Common.{reverse, Option, Some, None}

@@ -1,11 +1,11 @@
 mod DayLists
 mod NamedCapLemmas
-mod StatementLemmas
+pub mod StatementLemmas
 mod Examples
 mod GatheredLemmas
 mod RunLemmas
 mod DayRowLemmas
 mod RowDayLemmas
 mod CountLemmas
-mod KnownLemmas
+pub mod KnownLemmas
 mod ReadyLemmas

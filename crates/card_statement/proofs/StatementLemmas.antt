@@ -296,7 +296,7 @@ days-sum scheme taps =
     )
 
 -- the rows of top-ups pay in what the acts do
-top-ups-sum : (scheme : Scheme) (acts : List Act) →
+pub top-ups-sum : (scheme : Scheme) (acts : List Act) →
     sum_by pence_in_row (top_up_rows scheme acts) ≡ sum_by pence_paid acts
 top-ups-sum scheme [] = refl
 top-ups-sum scheme (Enter station moment ∷ acts) =

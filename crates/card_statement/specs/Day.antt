@@ -1,4 +1,4 @@
--- The row of a fare day on a statement (docs/FARES.md, "Statement"; this project's choice). Lists
+-- The row of a fare day on a statement (FARES.md, "Statement"; this project's choice). Lists
 -- are newest first.
 use Rattle.std.specs.Prelude.{ℕ, ℤ, ◌+◌, List, [], ◌∷◌, map, filter, sum_by, Bool, ◌||◌, Option}
 use Rattle.std.specs.Prelude.{None}

@@ -1,4 +1,4 @@
--- What a walk over a card's touches, oldest first, has gathered for its statement (docs/FARES.md,
+-- What a walk over a card's touches, oldest first, has gathered for its statement (FARES.md,
 -- "Statement"). The definitions' lists are newest first, and the code's are oldest first.
 use Rattle.std.specs.Prelude.{◌≡◌, List, [], ◌∷◌, drop, reverse, Bool, true, false, if◌then◌else◌}
 use Rattle.std.specs.Prelude.{Option, Some, None}

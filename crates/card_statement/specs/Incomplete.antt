@@ -1,4 +1,4 @@
--- The touches of travel that miss their other end, as rows of a statement (docs/FARES.md,
+-- The touches of travel that miss their other end, as rows of a statement (FARES.md,
 -- "Statement"; this project's choice). Lists are newest first.
 use Rattle.std.specs.Prelude.{ℕ, ℤ, List, [], ◌∷◌, filter, Bool, ◌||◌, if◌then◌else◌, Option, Some}
 use Rattle.std.specs.Prelude.{None}

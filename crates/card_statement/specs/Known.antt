@@ -1,5 +1,5 @@
 -- What a statement needs of a card's accepted touches, and that judged touches have it
--- (docs/FARES.md, "Accepted and refused").
+-- (FARES.md, "Accepted and refused").
 use Rattle.std.specs.Prelude.{◌≡◌, ℕ, true, List, [], ◌∷◌, ◌++◌}
 use Rattle.std.specs.List.{All}
 use Rattle.oyster_account.specs.declared.touch.Act.{Act}

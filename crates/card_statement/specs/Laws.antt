@@ -1,4 +1,4 @@
--- Laws of a card's statement (docs/FARES.md, "Statement"): its rows sum to what it is charged,
+-- Laws of a card's statement (FARES.md, "Statement"): its rows sum to what it is charged,
 -- and each day's charge follows from its row. Lists are newest first.
 use Rattle.std.specs.Prelude.{◌≡◌, ℕ, ℤ, ◌+◌, List, sum_by, filter, not, Option, Some, None}
 use Rattle.fare_table.specs.declared.rows.Cap.{Cap}

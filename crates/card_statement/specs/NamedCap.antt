@@ -1,4 +1,4 @@
--- The cap that a statement names for a fare day (docs/FARES.md, "Statement"; this project's
+-- The cap that a statement names for a fare day (FARES.md, "Statement"; this project's
 -- choice). Lists are newest first.
 use Rattle.std.specs.Prelude.{ℕ, ◌==◌, List, sum_by, Bool, false, if◌then◌else◌, Option, Some, None}
 use Rattle.std.specs.List.{find}

@@ -1,4 +1,4 @@
--- A card's statement (docs/FARES.md, "Statement"; this project's choice). `acts` are a card's
+-- A card's statement (FARES.md, "Statement"; this project's choice). `acts` are a card's
 -- accepted acts. Lists are newest first.
 use Rattle.std.specs.Prelude.{ℕ, ℤ, pos, ◌-ℤ◌, List, map, sum_by, Option, Some, None}
 use Rattle.std.specs.List.{filter_map}

@@ -34,6 +34,7 @@ impl Statement {
     /// The card's accepted travel is in order and of known stations, as it is if the replies are
     /// those of the account's rules; [`Statement::is_ready`] checks a history of other origin. It
     /// takes one walk over the touches, and for each day one walk over its journeys for each cap.
+    /// All sums of its rows fit: of top-ups below 2^60 pence, of charges below 2^62.
     pub fn of(
         alloc: Global,
         schedule: &Schedule,
@@ -45,6 +46,8 @@ impl Statement {
         requires known { AreStationsKnown (scheme_of schedule.now) card touches.now }
         ensures statement { IfOk result (λ statement. content_of_statement statement
             ≡ statement_of (scheme_of schedule.now) (accepted card touches.now)) }
+        ensures paid_in { IfOk result (λ statement. statement.paid_in < 2 ^ 60) }
+        ensures charged { IfOk result (λ statement. statement.charged < 2 ^ 62) }
     {
         let mut top_ups = Vec::new(alloc);
         let gathered = gather(alloc, schedule, card, touches, &mut top_ups)?;
@@ -60,6 +63,8 @@ fn summed(days: Vec<Day>, top_ups: Vec<TopUp>) -> Statement
     requires limit { sum_by pence_charged (map content_of_day days.items) < 2 ^ 62 }
     ensures value { content_of_statement result
         ≡ statement_with (map content_of_day days.items) top_ups.items }
+    ensures paid_in { result.paid_in < 2 ^ 60 }
+    ensures charged { result.charged < 2 ^ 62 }
 {
     let paid_in = paid_in(top_ups.as_slice());
     let charged = charged(days.as_slice());

@@ -1,5 +1,5 @@
 //! What no clause says: that a call succeeds when there is memory, and reports a refused
-//! allocation. The values are those of docs/FARES.md.
+//! allocation. The values are those of FARES.md.
 
 ghost use Rattle.std.specs.Prelude.{◌≡◌, ◌+◌, ◌*◌};
 

@@ -1,6 +1,6 @@
 -- Worked examples, computed by the definitions: a log of two entries, of which another gate's is the first, a session
 -- that is answered from it, and what isn't a log, a place in it, or an answer from it. No table of fares decides the
--- replies: a first issue of a card is accepted (docs/FARES.md, "Verdicts").
+-- replies: a first issue of a card is accepted (FARES.md, "Verdicts").
 use Rattle.std.proofs.Common.{◌≡◌, inl, inr, ℕ, zero, suc, pos, true, false, List, [], ◌∷◌, get_or, length, refl, sym}
 use Rattle.std.proofs.Common.{ap, arith, Some, subst, rules}
 use Rattle.std.specs.Prelude.{Contains, slice_get}

@@ -1,4 +1,4 @@
--- A session by the list of the desk at which it was served (docs/ENQUIRIES.md; docs/PROOFS.md, "A
+-- A session by the list of the desk at which it was served (ENQUIRIES.md; PROOFS.md, "A
 -- gate and its station").
 use Rattle.std.specs.Prelude.{ℕ, List, length}
 use Rattle.reply_book.specs.declared.entry.Entry.{Entry}

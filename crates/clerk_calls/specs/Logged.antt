@@ -1,5 +1,5 @@
 -- A clerk that answers from a log to which others add entries too, and its sessions as runs of the
--- steps of gate_law (docs/OFFICE.md, "Seats and receipts"; docs/PROOFS.md, "A gate and its
+-- steps of gate_law (OFFICE.md, "Seats and receipts"; PROOFS.md, "A gate and its
 -- station").
 use Rattle.std.specs.Prelude.{◌≡◌, ◌⊎◌, ℕ, ◌≤◌, false, List, ◌∷◌, take, length, Some, slice_get}
 use Rattle.oyster_account.specs.declared.touch.Touch.{Touch}

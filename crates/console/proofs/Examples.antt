@@ -1,4 +1,4 @@
--- Worked examples, computed by the definitions: lines of docs/FAULTS.md, "Faults".
+-- Worked examples, computed by the definitions: lines of FAULTS.md, "Faults".
 use Rattle.std.proofs.Common.{◌≡◌, refl, Some, codes}
 use Rattle.std.specs.Fmt.{digits}
 use Rattle.fare_schedule.specs.declared.fault.SupplyFault.TheVariants.{OtherZone}

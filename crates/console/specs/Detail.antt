@@ -1,4 +1,4 @@
--- The line behind that of a fault (docs/FAULTS.md, "Faults"; this project's choice).
+-- The line behind that of a fault (FAULTS.md, "Faults"; this project's choice).
 use Rattle.std.specs.Prelude.{None}
 use Rattle.console.specs.declared.detail.Detail.{Detail}
 

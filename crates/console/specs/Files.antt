@@ -1,4 +1,4 @@
--- Which bytes a file is said to have given, and why one isn't had (docs/FAULTS.md, "Faults"; this
+-- Which bytes a file is said to have given, and why one isn't had (FAULTS.md, "Faults"; this
 -- project's choice).
 use Rattle.std.specs.Prelude.{ℕ, List}
 use Rattle.text_io.specs.declared.fault.RunFault.TheVariants as runs

@@ -1,4 +1,4 @@
--- What a fault of a trial prints: the line that standard error gets of it (docs/FAULTS.md,
+-- What a fault of a trial prints: the line that standard error gets of it (FAULTS.md,
 -- "Faults"; this project's choice).
 use Rattle.std.specs.Prelude.{ℕ, List, ◌++◌, Option, Some, None, codes}
 use Rattle.std.specs.Fmt.{decimal}

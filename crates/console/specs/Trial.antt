@@ -1,4 +1,4 @@
--- Which fault of a command a refused fare table is (docs/FAULTS.md, "Faults"; this project's
+-- Which fault of a command a refused fare table is (FAULTS.md, "Faults"; this project's
 -- choice).
 use Rattle.fare_table.specs.declared.fault.TableFault.{TableFault}
 use Rattle.fare_table.specs.declared.fault.TableFault.TheVariants as tables

@@ -1,4 +1,4 @@
--- Which table is in force on a fare day (docs/TABLE.md, "Revised tables"; this project's choice).
+-- Which table is in force on a fare day (TABLE.md, "Revised tables"; this project's choice).
 -- Revisions are oldest first, and the tables are the first one and those that were supplied.
 use Rattle.std.specs.Prelude.{ℕ, ℤ, int_le, Bool, List, ◌∷◌, Option, Some, None, unwrap_or}
 use Rattle.std.specs.List.{filter, find, last_or}

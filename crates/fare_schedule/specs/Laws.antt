@@ -1,4 +1,4 @@
--- Which table is in force, in a reader's words (docs/TABLE.md, "Revised tables").
+-- Which table is in force, in a reader's words (TABLE.md, "Revised tables").
 use Rattle.std.specs.Prelude.{◌≡◌, ℕ, ℤ, ◌≤ℤ◌, ◌<ℤ◌, List, ◌∷◌, ◌++◌, Some}
 use Rattle.std.specs.List.{All}
 use Rattle.fare_table.specs.Fares.{digest_of}

@@ -1,5 +1,5 @@
 -- What contracts see of a schedule: its tables, its revisions, and which table is in force on a
--- fare day (docs/TABLE.md, "Revised tables"; this project's choice).
+-- fare day (TABLE.md, "Revised tables"; this project's choice).
 use Rattle.std.specs.Prelude.{ℕ, ℤ, ◌<◌, ◌<ℤ◌, List, ◌∷◌, length, vec_capacity}
 use Rattle.std.specs.Prelude.{Option, None, option_map}
 use Rattle.std.specs.List.{last_or}

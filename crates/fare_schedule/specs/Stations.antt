@@ -1,4 +1,4 @@
--- Tables of the same stations (docs/TABLE.md, "Revised tables"; this project's choice).
+-- Tables of the same stations (TABLE.md, "Revised tables"; this project's choice).
 use Rattle.std.specs.Prelude.{◌≡◌, ℕ, Bool, ◌&&◌, is_some}
 use Rattle.fare_table.specs.Fare.{station_at}
 use Rattle.fare_table.specs.Fares.{content_of}

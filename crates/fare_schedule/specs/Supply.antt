@@ -1,4 +1,4 @@
--- Why a table isn't supplied (docs/TABLE.md, "Revised tables"; this project's choice).
+-- Why a table isn't supplied (TABLE.md, "Revised tables"; this project's choice).
 use Rattle.std.specs.Prelude.{Bool, not, nat_lt, length, Option, Some, None, is_some, if◌then◌else◌}
 use Rattle.std.specs.Str.{bytes_eq}
 use Rattle.fare_table.specs.Fares.{digest_of, zone_text_of}

@@ -1,4 +1,4 @@
--- The printed text of each fault: its number and its name (docs/TABLE.md, "Revised tables"; this
+-- The printed text of each fault: its number and its name (TABLE.md, "Revised tables"; this
 -- project's choice).
 use Rattle.std.specs.Prelude.{codes, ℕ, List}
 use Rattle.fare_schedule.specs.declared.fault.SupplyFault.{SupplyFault}

@@ -1,7 +1,7 @@
 //! Fare tables with the fare days from which they count: on each fare day one of them is in force.
 //!
 //! [`Schedule::on`] is the table of the last revision whose day is at most the fare day, as
-//! docs/TABLE.md says under "Revised tables".
+//! TABLE.md says under "Revised tables".
 #![tactic(auto)]
 
 mod dated;

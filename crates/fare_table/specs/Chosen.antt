@@ -1,4 +1,4 @@
--- Which zones make a fare without a named pair (docs/FARES.md, "Fare by a table"; which of equal
+-- Which zones make a fare without a named pair (FARES.md, "Fare by a table"; which of equal
 -- prices is taken is this project's choice).
 use Rattle.std.specs.Prelude.{◌≡◌, ◌<◌, ◌≤◌, ◌⊎◌, ℕ, Bool, IsTrue, List}
 use Rattle.fare_table.specs.Fare.{zone_fare, zone_fares, cheapest_of}

@@ -1,4 +1,4 @@
--- The fare between two stations (docs/FARES.md, "Band" and "Fare by a table"; the bands are those
+-- The fare between two stations (FARES.md, "Band" and "Fare by a table"; the bands are those
 -- of TfL's published scheme; the evening exception, how a station of two zones counts, and which of
 -- equal prices is taken are this project's choice).
 use Rattle.std.specs.Prelude.{ℕ, ℤ, Bool, true, false, not, ◌&&◌, ◌==◌, nat_lt, min, max}

@@ -1,4 +1,4 @@
--- The faults of a table, cause by cause in the order of docs/TABLE.md, "Faults". The first of them
+-- The faults of a table, cause by cause in the order of TABLE.md, "Faults". The first of them
 -- is answered (the causes and their order are this project's choice).
 use Rattle.std.specs.Prelude.{ℕ, ◌+◌, Bool, not, ◌&&◌, ◌==◌, nat_le, is_some}
 use Rattle.std.specs.Prelude.{List, [], ◌∷◌, ◌++◌, Option, Some, None, if◌then◌else◌}

@@ -1,4 +1,4 @@
--- What a fare table says, whatever value holds it (docs/TABLE.md; this project's choice). It is
+-- What a fare table says, whatever value holds it (TABLE.md; this project's choice). It is
 -- the table's content, with what the clock of its zone shows in place of the zone's own value. That
 -- value keeps the names of standard and summer time in places of one length, and the text doesn't
 -- say what stands there behind a shorter name.

@@ -1,4 +1,4 @@
--- Which stations two tables share (docs/TABLE.md, "Revised tables"; this project's choice).
+-- Which stations two tables share (TABLE.md, "Revised tables"; this project's choice).
 use Rattle.std.specs.Prelude.{Bool}
 use Rattle.std.specs.List.{list_all}
 use Rattle.fare_table.specs.Fare.{Content}

@@ -1,4 +1,4 @@
--- What a table that was read says: the content of the tree of its text (docs/TABLE.md).
+-- What a table that was read says: the content of the tree of its text (TABLE.md).
 use Rattle.std.specs.Prelude.{◌≡◌, ℕ, List, map, Some}
 use Rattle.jiff.specs.Placed.{IsPosixZone}
 use Rattle.sha2.specs.Sha256.{sha256}

@@ -59,7 +59,7 @@ impl Fares {
     ghost use Rattle.fare_table.specs.Fare.{stamp_of};
     ghost use Rattle.money_time.specs.Stamp.{by_holidays};
 
-    /// Reads a table's text, as docs/TABLE.md says.
+    /// Reads a table's text, as TABLE.md says.
     ///
     /// It accepts exactly the valid tables, want of memory aside. A fault is of the first cause in
     /// their order that holds, at its first place. `Memory` comes where a growth was refused,
@@ -93,7 +93,7 @@ impl Fares {
 
     /// The table that bytes hold. Bytes that are no UTF-8 are no TOML document.
     ///
-    /// `Memory` says nothing of the bytes. Any other fault is their first one (docs/TABLE.md,
+    /// `Memory` says nothing of the bytes. Any other fault is their first one (TABLE.md,
     /// "Faults").
     pub fn read_bytes(alloc: Global, bytes: &[u8]) -> Result<Fares, TableFault>
         ensures ok { IfOk result (IsTableOf bytes.now) }

@@ -1,4 +1,4 @@
--- The tag and the frames by computing: the values stand in docs/JOURNAL.md and docs/PROTOCOL.md, and the code can't
+-- The tag and the frames by computing: the values stand in JOURNAL.md and PROTOCOL.md, and the code can't
 -- change them unseen.
 use Rattle.std.proofs.Common.{◌≡◌, [], ◌∷◌, ◌++◌, refl}
 use Rattle.std.specs.Prelude.{codes}

@@ -1,4 +1,4 @@
--- Worked examples, computed by the definitions: lines of docs/COMMANDS.md, "gate_send".
+-- Worked examples, computed by the definitions: lines of COMMANDS.md, "gate_send".
 use Rattle.std.proofs.Common.{◌≡◌, refl, codes, pos, negsuc}
 use Rattle.std.specs.Fmt.{digits}
 use Rattle.oyster_account.specs.declared.touch.Act.TheVariants.{Enter, TopUp}

@@ -1,4 +1,4 @@
--- Which lines ask for a touch (docs/COMMANDS.md, "gate_send"; this project's choice).
+-- Which lines ask for a touch (COMMANDS.md, "gate_send"; this project's choice).
 use Rattle.std.specs.Prelude.{◌≡◌, ◌⊎◌, ℕ, ◌<◌, ◌^◌, List, ◌∷◌, ◌++◌, codes}
 use Rattle.std.specs.Str.Parse.{IsNumeral, digits_value}
 use Rattle.oyster_account.specs.declared.touch.Act.{Act}

@@ -1,5 +1,5 @@
 -- An enquiry over a line: which lines ask for one, what passes, and the line of its answer
--- (docs/COMMANDS.md, "gate_send"; docs/PROTOCOL.md, "Frames"; this project's choice).
+-- (COMMANDS.md, "gate_send"; PROTOCOL.md, "Frames"; this project's choice).
 use Rattle.std.specs.Prelude.{◌≡◌, ℕ, List, ◌++◌, codes, Option, Result, Ok, Err}
 use Rattle.std.specs.Fmt.{decimal, signed_decimal}
 use Rattle.std.specs.Io.KnownBytes.{Appends, Consumes}

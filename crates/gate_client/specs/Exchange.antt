@@ -1,4 +1,4 @@
--- What passes over a line for a touch (docs/PROTOCOL.md, "Writing a client"; this project's
+-- What passes over a line for a touch (PROTOCOL.md, "Writing a client"; this project's
 -- choice).
 use Rattle.std.specs.Prelude.{◌≡◌, ℕ, List, ◌++◌, codes, Option, Result, Ok, Err}
 use Rattle.std.specs.Io.KnownBytes.{Appends, Consumes}
@@ -27,7 +27,7 @@ pub record HasSettled (t : Touch) (reply : Reply) (unread left written after : O
   pub sent : Appends written after (frame_of t)
   pub heard : Consumes unread left (answer_frame (answers.Reply t.gate t.number reply))
 
--- what a notice says of a try's fault (docs/COMMANDS.md, "gate_send")
+-- what a notice says of a try's fault (COMMANDS.md, "gate_send")
 abbrev pub printed_try_fault : TryFault → List ℕ
 printed_try_fault Unreached = codes "connect"
 printed_try_fault Cut = codes "send"

@@ -1,4 +1,4 @@
--- What a client sends of its touch, and what it hears (docs/PROTOCOL.md, "Frames"; this project's
+-- What a client sends of its touch, and what it hears (PROTOCOL.md, "Frames"; this project's
 -- choice).
 use Rattle.std.specs.Prelude.{◌≡◌, ℕ, List, Result, Ok, Err}
 use Rattle.oyster_account.specs.declared.touch.Touch.{Touch}

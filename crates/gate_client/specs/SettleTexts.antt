@@ -1,5 +1,5 @@
--- The faults that end the settling of a touch, and their text (docs/PROTOCOL.md, "Faults";
--- docs/FAULTS.md; this project's choice).
+-- The faults that end the settling of a touch, and their text (PROTOCOL.md, "Faults";
+-- FAULTS.md; this project's choice).
 use Rattle.std.specs.Prelude.{codes, ℕ, ◌==◌, if◌then◌else◌, List, ◌++◌, Option, Some, None}
 use Rattle.std.specs.Fmt.{decimal}
 use Rattle.gate_session.specs.declared.answer.FaultCode.TheVariants as faults

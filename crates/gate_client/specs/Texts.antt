@@ -1,5 +1,5 @@
 -- The printed text of each fault: its number and its name, and the place or the code that it is
--- about (docs/FAULTS.md; this project's choice).
+-- about (FAULTS.md; this project's choice).
 use Rattle.std.specs.Prelude.{codes, ℕ, List, ◌++◌}
 use Rattle.std.specs.Fmt.{decimal}
 use Rattle.gate_client.specs.declared.fault.FileFault.{FileFault}

@@ -1,4 +1,4 @@
-//! What is written of an enquiry, and read of its answer (docs/PROTOCOL.md, "Frames").
+//! What is written of an enquiry, and read of its answer (PROTOCOL.md, "Frames").
 ghost use Rattle.std.specs.Prelude.{◌≡◌, ℕ, Err, IfOk, IfSome};
 ghost use Rattle.std.specs.Io.KnownBytes.{Consumes};
 ghost use Rattle.gate_session.specs.declared.answer.Answer.TheVariants as answers;

@@ -1,4 +1,4 @@
-//! What a client writes of its touch, and reads of an answer (docs/PROTOCOL.md, "Frames").
+//! What a client writes of its touch, and reads of an answer (PROTOCOL.md, "Frames").
 ghost use Rattle.std.specs.Prelude.{◌≡◌, ◌≤◌, ◌<◌, ◌^◌, ℕ, ℤ, List, ◌++◌, Some, Result, Ok, Err};
 ghost use Rattle.std.specs.Prelude.{IfOk, IfErr, IfSome, IsSomeAnd, take};
 ghost use Rattle.std.specs.Int.{w64, to_be_bytes, cast_unsigned};

@@ -1,6 +1,6 @@
 -- Worked examples, computed by the definitions: a run of gate 7 in which a reply is lost, the gate crashes and repeats,
 -- and the station crashes with a touch in flight. No table of fares decides the replies: a first issue of a card is
--- accepted, and a second one refused (docs/FARES.md, "Verdicts").
+-- accepted, and a second one refused (FARES.md, "Verdicts").
 use Rattle.std.proofs.Common.{◌≡◌, inl, inr, ℕ, ◌<◌, pos, true, false, List, [], ◌∷◌, ◌++◌, refl, arith}
 use Rattle.std.specs.Prelude.{Contains}
 use Rattle.oyster_account.specs.declared.touch.Act.TheVariants.{Issue}

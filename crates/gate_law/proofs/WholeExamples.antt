@@ -1,6 +1,6 @@
 -- A worked example, computed by the definitions: a run of gates 7 and 9 and their station, in which a reply is lost,
 -- and gate 7 crashes and repeats. No table of fares decides the replies: a first issue of a card is accepted, and a
--- second one refused (docs/FARES.md, "Verdicts"). WholeCrashExamples has how the run goes on.
+-- second one refused (FARES.md, "Verdicts"). WholeCrashExamples has how the run goes on.
 use Rattle.std.proofs.Common.{inl, ℕ, Bool, true, false, List, [], ◌∷◌, ◌++◌, refl}
 use Rattle.oyster_account.specs.declared.touch.Touch.{Touch}
 use Rattle.reply_book.specs.Tables.{Tables}

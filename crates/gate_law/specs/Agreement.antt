@@ -1,4 +1,4 @@
--- What always holds of a gate and its station, whatever they do and lose (docs/PROOFS.md, "A gate
+-- What always holds of a gate and its station, whatever they do and lose (PROOFS.md, "A gate
 -- and its station"; this project's choice).
 use Rattle.std.specs.Prelude.{◌≡◌, ◌≢◌, ◌⊎◌, ℕ, Bool, true, false, List, [], ◌∷◌, ◌++◌, IsTrue}
 use Rattle.std.specs.Prelude.{Contains, Some, slice_get}

@@ -1,5 +1,5 @@
 -- What comes of a touch where nothing goes wrong: the station reads the whole frame, and the gate
--- the whole frame of the answer (docs/PROOFS.md, "A gate and its station").
+-- the whole frame of the answer (PROOFS.md, "A gate and its station").
 use Rattle.std.specs.Prelude.{◌≡◌, ◌≢◌, ℕ, true, length, Result, Ok, Err}
 use Rattle.oyster_account.specs.declared.touch.Touch.{Touch}
 use Rattle.oyster_account.specs.declared.reply.Reply.{Reply}

@@ -1,4 +1,4 @@
--- What a clerk answers from a station's book (docs/PROTOCOL.md, "Requests and their answers").
+-- What a clerk answers from a station's book (PROTOCOL.md, "Requests and their answers").
 use Rattle.std.specs.Prelude.{◌≡◌, ◌⊎◌, false, length}
 use Rattle.oyster_account.specs.declared.touch.Touch.{Touch}
 use Rattle.oyster_account.specs.declared.reply.Reply.{Reply}

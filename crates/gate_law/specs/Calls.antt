@@ -1,5 +1,5 @@
 -- Which step of gate_law each call of gate_client is, by what its clauses say of the client
--- before and after (docs/PROOFS.md, "A gate and its station").
+-- before and after (PROOFS.md, "A gate and its station").
 use Rattle.std.specs.Prelude.{◌≡◌, ◌⊎◌, ℕ, List, [], ◌∷◌, ◌++◌, map, Some, None}
 use Rattle.oyster_account.specs.declared.touch.Act.{Act}
 use Rattle.oyster_account.specs.declared.touch.Touch.{Touch}

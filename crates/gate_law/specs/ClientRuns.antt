@@ -1,4 +1,4 @@
--- The calls of a gate's client as steps of its gate (docs/PROOFS.md, "A gate and its station").
+-- The calls of a gate's client as steps of its gate (PROOFS.md, "A gate and its station").
 use Rattle.std.specs.Prelude.{◌≡◌, ℕ, Bool, List, [], ◌∷◌, ◌++◌, Result, Ok, Err}
 use Rattle.oyster_account.specs.declared.touch.Touch.{Touch}
 use Rattle.oyster_account.specs.declared.reply.Reply.{Reply}

@@ -1,5 +1,5 @@
 -- What a client shows of the joint state of a gate and its station, and what each step of the gate
--- makes of that state (docs/PROOFS.md, "A gate and its station").
+-- makes of that state (PROOFS.md, "A gate and its station").
 use Rattle.std.specs.Prelude.{◌≡◌, ℕ, true, false, [], ◌∷◌, ◌++◌, is_some}
 use Rattle.oyster_account.specs.declared.touch.Touch.{Touch}
 use Rattle.oyster_account.specs.declared.reply.Reply.{Reply}

@@ -1,5 +1,5 @@
 -- A gate and its station, seen together: what both keep, what was written between them, and what
--- the gate's caller was told (docs/PROTOCOL.md, "Names and repeats"; this project's choice).
+-- the gate's caller was told (PROTOCOL.md, "Names and repeats"; this project's choice).
 use Rattle.std.specs.Prelude.{◌≡◌, ℕ, ◌==◌, Bool, true, false, List, [], ◌∷◌, ◌++◌, filter}
 use Rattle.oyster_account.specs.declared.touch.Touch.{Touch}
 use Rattle.oyster_account.specs.declared.reply.Judged.{Judged}

@@ -1,5 +1,5 @@
 -- What a line brings of the frames that were written on it, where one side read a beginning of the
--- bytes that the other wrote (docs/PROTOCOL.md, "Frames"; that a line brings no more is assumed).
+-- bytes that the other wrote (PROTOCOL.md, "Frames"; that a line brings no more is assumed).
 use Rattle.std.specs.Prelude.{◌≡◌, ◌⊎◌, ℕ, List, [], ◌++◌, All, flat_map, Contains}
 use Rattle.gate_session.specs.Frames.{RequestFits, request_frame}
 use Rattle.gate_session.specs.Answers.{AnswerFits, answer_frame}

@@ -1,5 +1,5 @@
 -- One account machine, which is asked a touch at a time and gives the reply at once. What all gates
--- and their station do, over lines and through crashes, is what this machine does (docs/PROOFS.md,
+-- and their station do, over lines and through crashes, is what this machine does (PROOFS.md,
 -- "A gate and its station"; this project's choice).
 use Rattle.std.specs.Prelude.{◌≡◌, ◌⊎◌, ℕ, ◌==◌, Bool, true, IsTrue, List, [], ◌∷◌, ◌++◌, filter}
 use Rattle.std.specs.Prelude.{Contains}

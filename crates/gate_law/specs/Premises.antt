@@ -1,5 +1,5 @@
 -- What the law over a gate and its station rests on, beside what the two do: each premise by its
--- name. A step, or the first state, has it as a field (docs/PROOFS.md, "A gate and its station").
+-- name. A step, or the first state, has it as a field (PROOFS.md, "A gate and its station").
 use Rattle.std.specs.Prelude.{◌≡◌, ◌≢◌, ℕ, List, Contains}
 use Rattle.oyster_account.specs.declared.touch.Touch.{Touch}
 use Rattle.oyster_account.specs.declared.reply.Reply.{Reply}

@@ -1,4 +1,4 @@
--- A whole session of gate_session as a run of steps of gate_law (docs/PROOFS.md, "A gate and its
+-- A whole session of gate_session as a run of steps of gate_law (PROOFS.md, "A gate and its
 -- station").
 use Rattle.std.specs.Prelude.{ℕ, List, ◌++◌, Contains}
 use Rattle.oyster_account.specs.declared.touch.Touch.{Touch}

@@ -1,4 +1,4 @@
--- What a client shows of its gate, and what a disk may hold of the gate's file (docs/PROOFS.md, "A
+-- What a client shows of its gate, and what a disk may hold of the gate's file (PROOFS.md, "A
 -- gate and its station").
 use Rattle.std.specs.Prelude.{◌≡◌, ℕ, Bool, true, false, List, [], is_some}
 use Rattle.oyster_account.specs.declared.touch.Touch.{Touch}

@@ -1,4 +1,4 @@
--- What a station does of a request, as the steps of gate_law have it (docs/PROTOCOL.md,
+-- What a station does of a request, as the steps of gate_law have it (PROTOCOL.md,
 -- "Requests and their answers").
 use Rattle.std.specs.Prelude.{◌≡◌, ◌⊎◌, ℕ, false, List, [], ◌∷◌, ◌++◌}
 use Rattle.oyster_account.specs.declared.touch.Touch.{Touch}

@@ -1,4 +1,4 @@
--- What a gate and its station do, a step at a time (docs/PROTOCOL.md, "Names and repeats"; that one
+-- What a gate and its station do, a step at a time (PROTOCOL.md, "Names and repeats"; that one
 -- touch waits at a time, with the number of its place, is this project's choice). A message that is
 -- lost is a step that doesn't come; a crash of either side is an opening, after whatever it left.
 use Rattle.std.specs.Prelude.{◌≡◌, ◌⊎◌, ℕ, ◌+◌, Bool, true, false, List, [], ◌∷◌, ◌++◌, length}

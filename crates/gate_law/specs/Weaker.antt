@@ -1,5 +1,5 @@
 -- Steps that lack one condition of a step in specs/Steps.antt, or one premise of it, and what it
--- means that the law doesn't hold with such a step (docs/PROOFS.md, "A gate and its station").
+-- means that the law doesn't hold with such a step (PROOFS.md, "A gate and its station").
 use Rattle.std.specs.Prelude.{◌≡◌, ◌⊎◌, ℕ, ◌+◌, true, false, List, [], ◌∷◌, ◌++◌, length}
 use Rattle.oyster_account.specs.declared.touch.Act.{Act}
 use Rattle.oyster_account.specs.declared.touch.Touch.{Touch}

@@ -1,5 +1,5 @@
 -- A station and all its gates, seen together: of each what a crash leaves, and what it takes
--- (docs/PROTOCOL.md, "Names and repeats"; docs/OFFICE.md, "Rounds"; this project's choice).
+-- (PROTOCOL.md, "Names and repeats"; OFFICE.md, "Rounds"; this project's choice).
 use Rattle.std.specs.Prelude.{◌≡◌, ℕ, ◌==◌, if◌then◌else◌, Bool, true, false, List, [], ◌∷◌}
 use Rattle.std.specs.Prelude.{◌++◌, length}
 use Rattle.oyster_account.specs.declared.touch.Touch.{Touch}

@@ -1,4 +1,4 @@
--- What always holds of a station and all its gates, whatever they do and lose (docs/PROOFS.md, "A
+-- What always holds of a station and all its gates, whatever they do and lose (PROOFS.md, "A
 -- gate and its station"; this project's choice).
 use Rattle.std.specs.Prelude.{◌≡◌, ◌≢◌, ℕ, Bool, true, false, List, [], ◌∷◌, Contains}
 use Rattle.oyster_account.specs.declared.touch.Touch.{Touch}

@@ -1,4 +1,4 @@
--- What gates and their station do, a step at a time, crashes of either among it (docs/PROTOCOL.md,
+-- What gates and their station do, a step at a time, crashes of either among it (PROTOCOL.md,
 -- "Names and repeats"; this project's choice). A message that is lost is a step that doesn't come.
 use Rattle.std.specs.Prelude.{◌≡◌, ◌⊎◌, ℕ, ◌+◌, Bool, true, false, List, [], ◌∷◌, ◌++◌, length}
 use Rattle.oyster_account.specs.declared.touch.Touch.{Touch}

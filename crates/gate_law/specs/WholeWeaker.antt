@@ -1,5 +1,5 @@
 -- Steps of gates and their station that lack a condition of a step in specs/WholeSteps.antt, and
--- what it means that the law doesn't hold with such a step (docs/PROOFS.md, "A gate and its
+-- what it means that the law doesn't hold with such a step (PROOFS.md, "A gate and its
 -- station").
 use Rattle.std.specs.Prelude.{◌≡◌, ◌⊎◌, ℕ, Bool, true, false, List, [], ◌∷◌, ◌++◌}
 use Rattle.oyster_account.specs.declared.touch.Touch.{Touch}

@@ -1,4 +1,4 @@
--- Worked examples, computed by the definitions: lines of docs/FAULTS.md, "Faults of gate_send".
+-- Worked examples, computed by the definitions: lines of FAULTS.md, "Faults of gate_send".
 use Rattle.std.proofs.Common.{◌≡◌, refl, Some, None, codes}
 use Rattle.std.specs.Fmt.{digits}
 use Rattle.gate_client.specs.declared.fault.FileFault.TheVariants as files

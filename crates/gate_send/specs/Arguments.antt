@@ -1,4 +1,4 @@
--- Which command lines are allowed (docs/COMMANDS.md, "gate_send"; this project's choice).
+-- Which command lines are allowed (COMMANDS.md, "gate_send"; this project's choice).
 use Rattle.std.specs.Prelude.{IfSome}
 use Rattle.program_options.specs.Numbers.{IsWithin}
 use Rattle.gate_send.specs.declared.arguments.Arguments.{Arguments}

@@ -62,7 +62,7 @@ const GATE_LIMIT: u32 = 65_535;
 const TRIES_LIMIT: u32 = 1_000_000;
 /// The most milliseconds that an answer can be waited for.
 const TIMEOUT_LIMIT: u32 = 3_600_000;
-/// How many milliseconds it is waited for where none are named (docs/PROTOCOL.md, "When to repeat,
+/// How many milliseconds it is waited for where none are named (PROTOCOL.md, "When to repeat,
 /// and how often").
 const TIMEOUT: u32 = 2_000;
 /// The longest pause between two tries, in milliseconds.

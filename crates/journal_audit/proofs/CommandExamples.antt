@@ -1,4 +1,4 @@
--- Worked examples of commands, computed by the definitions: lines of docs/FAULTS.md.
+-- Worked examples of commands, computed by the definitions: lines of FAULTS.md.
 use Rattle.std.proofs.Common.{◌≡◌, refl, [], ◌∷◌, Some, codes, true, false}
 use Rattle.std.specs.Fmt.{digits}
 use Rattle.hex.proofs.OnLiterals.{hex_on_literals}

@@ -1,4 +1,4 @@
--- What a row says by the account of its card alone (docs/FARES.md, "Balance"; that a row has these
+-- What a row says by the account of its card alone (FARES.md, "Balance"; that a row has these
 -- columns is this project's choice).
 use Rattle.std.specs.Prelude.{◌≡◌, pos, List, sum_by}
 use Rattle.oyster_account.specs.declared.touch.Act.{Act}

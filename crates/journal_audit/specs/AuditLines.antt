@@ -1,4 +1,4 @@
--- The lines that are told of a sound journal (docs/COMMANDS.md, "verify"; this project's choice).
+-- The lines that are told of a sound journal (COMMANDS.md, "verify"; this project's choice).
 use Rattle.std.specs.Prelude.{ℕ, ◌-◌, zero, suc, List, [], ◌++◌, length, codes, Option, Some, None}
 use Rattle.std.specs.Fmt.{decimal}
 use Rattle.hex.specs.Hex.{encode_lower}

@@ -1,5 +1,5 @@
--- Why a journal wasn't told of, and what is asked of its header and seals (docs/FAULTS.md;
--- docs/COMMANDS.md, "verify"; this project's choice).
+-- Why a journal wasn't told of, and what is asked of its header and seals (FAULTS.md;
+-- COMMANDS.md, "verify"; this project's choice).
 use Rattle.std.specs.Prelude.{option_map}
 use Rattle.command_line.specs.declared.arguments.Verify.{Verify}
 use Rattle.command_line.specs.declared.seal.Seal.{Seal as AskedSeal}

@@ -1,5 +1,5 @@
 -- What stands behind the fault of a journal: the two values that differ, or the table that is
--- missing (docs/FAULTS.md, "The second line"; this project's choice).
+-- missing (FAULTS.md, "The second line"; this project's choice).
 use Rattle.std.specs.Prelude.{ℕ, List, ◌++◌, Bool, if◌then◌else◌, codes}
 use Rattle.std.specs.Fmt.{decimal}
 use Rattle.hex.specs.Hex.{encode_lower}

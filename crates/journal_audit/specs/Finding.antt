@@ -1,4 +1,4 @@
--- What an audit finds of a sound journal (docs/AUDIT.md, "What the lines say"; this project's
+-- What an audit finds of a sound journal (AUDIT.md, "What the lines say"; this project's
 -- choice).
 use Rattle.std.specs.Prelude.{ℕ, nat_le, if◌then◌else◌, List, codes}
 use Rattle.tap_journal.specs.declared.alone.TheConstants.{BEHIND_LIMIT}

@@ -1,4 +1,4 @@
--- When a command ends without a fault's line, since nobody reads what it writes (docs/COMMANDS.md,
+-- When a command ends without a fault's line, since nobody reads what it writes (COMMANDS.md,
 -- "history"; this project's choice).
 use Rattle.std.specs.Prelude.{◌≡◌, ℤ, pos, Option, Some}
 use Rattle.text_io.specs.declared.fault.RunFault.TheVariants as runs

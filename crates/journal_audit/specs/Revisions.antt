@@ -1,4 +1,4 @@
--- What is told of a journal's revisions (docs/COMMANDS.md, "verify"; this project's choice).
+-- What is told of a journal's revisions (COMMANDS.md, "verify"; this project's choice).
 use Rattle.std.specs.Prelude.{ℕ, ◌+◌, ℤ, List, [], ◌∷◌, ◌++◌, slice_get, codes, Option, Some, None}
 use Rattle.std.specs.Fmt.{decimal}
 use Rattle.hex.specs.Hex.{encode_lower}

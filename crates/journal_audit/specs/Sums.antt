@@ -1,4 +1,4 @@
--- What the accepted touches of a card paid in, took from it and gave back (docs/FARES.md, "Accepted
+-- What the accepted touches of a card paid in, took from it and gave back (FARES.md, "Accepted
 -- and refused" and "Verdicts"; that a statement of a card has these sums is this project's choice).
 use Rattle.std.specs.Prelude.{◌≡◌, ◌≤◌, ℕ, suc, ◌+◌, ◌*◌, ◌^◌, ℤ, pos, negsuc, ◌-ℤ◌, List, filter}
 use Rattle.std.specs.Prelude.{sum_by, slice_get, Some}

@@ -1,4 +1,4 @@
--- What a fault prints that is told of a journal (docs/FAULTS.md; this project's choice).
+-- What a fault prints that is told of a journal (FAULTS.md; this project's choice).
 use Rattle.std.specs.Prelude.{ℕ, List, ◌++◌, codes}
 use Rattle.std.specs.Fmt.{decimal}
 use Rattle.journal_audit.specs.declared.fault.GateFault.{GateFault}

@@ -1,4 +1,4 @@
--- What a fault prints: the line that standard error gets of it (docs/FAULTS.md, "Faults"; this
+-- What a fault prints: the line that standard error gets of it (FAULTS.md, "Faults"; this
 -- project's choice).
 use Rattle.std.specs.Prelude.{ℕ, List, ◌++◌, Option, Some, codes}
 use Rattle.std.specs.Fmt.{decimal}
@@ -14,6 +14,7 @@ use Rattle.journal_audit.specs.declared.commands.fault.CommandFault.TheVariants.
 use Rattle.journal_audit.specs.declared.commands.fault.CommandFault.TheVariants.{Gate, Card, Output}
 use Rattle.journal_audit.specs.declared.commands.fault.CommandFault.TheVariants.{Place, Behind}
 use Rattle.journal_audit.specs.declared.commands.fault.CommandFault.TheVariants.{Balance}
+use Rattle.journal_audit.specs.declared.commands.fault.CommandFault.TheVariants.{Unissued}
 use Rattle.journal_audit.specs.declared.commands.fault.CommandFault.TheVariants.{Listen}
 use Rattle.journal_audit.specs.declared.commands.fault.CommandFault.TheVariants.{SeatMissing}
 use Rattle.journal_audit.specs.declared.commands.fault.CommandFault.TheVariants.{Mismatch}
@@ -28,6 +29,7 @@ told_fault (Seal fault) = Some (codes "fault seal " ++ printed_seal_fault fault)
 told_fault (Gate fault) = Some (codes "fault gate " ++ printed_gate_fault fault)
 told_fault (Card card cards) =
     Some (codes "fault card " ++ (decimal card ++ (codes " above " ++ decimal cards)))
+told_fault (Unissued card) = Some (codes "fault card " ++ (decimal card ++ codes " not issued"))
 told_fault (Place touches) = Some (codes "fault place " ++ decimal touches)
 told_fault (Behind slots _) = Some (codes "fault behind " ++ decimal slots)
 told_fault (Balance card) = Some (codes "fault balance " ++ decimal card)

@@ -1,5 +1,5 @@
--- What `verify` has written where it ends, by the words of its command line (docs/COMMANDS.md,
--- "verify"; docs/FAULTS.md; this project's choice).
+-- What `verify` has written where it ends, by the words of its command line (COMMANDS.md,
+-- "verify"; FAULTS.md; this project's choice).
 use Rattle.std.specs.Prelude.{◌≡◌, ◌⊎◌, ℕ, List, map, Option, Some, None, option_map}
 use Rattle.command_line.specs.declared.arguments.Verify.{Verify}
 use Rattle.text_io.specs.Writing.{Wrote}

@@ -1,5 +1,5 @@
 -- What a command over a journal has written where it ends, by the words of its command line
--- (docs/COMMANDS.md; this project's choice).
+-- (COMMANDS.md; this project's choice).
 use Rattle.std.specs.Prelude.{◌≡◌, ◌⊎◌, ℕ, List, Option, Some}
 use Rattle.text_io.specs.Writing.{Wrote}
 use Rattle.reply_book.specs.Tables.{Tables}

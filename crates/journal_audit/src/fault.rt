@@ -32,7 +32,7 @@ pub enum SealFault {
 }
 
 /// Why some bytes aren't a gate's file, in the order in which the causes are looked for
-/// (docs/JOURNAL.md, "A gate's file"). The printed numbers begin at 1.
+/// (JOURNAL.md, "A gate's file"). The printed numbers begin at 1.
 #[derive(Clone, Copy, Debug, PartialEq, Eq, Error)]
 pub enum GateFault {
     /// They aren't a journal, or its making was cut short.

@@ -1,4 +1,4 @@
--- Worked examples, computed by the definitions: lines of docs/FAULTS.md, "Faults".
+-- Worked examples, computed by the definitions: lines of FAULTS.md, "Faults".
 use Rattle.std.proofs.Common.{◌≡◌, refl, Some, codes}
 use Rattle.journal_audit.specs.Told.{told_fault}
 use Rattle.office_lines.specs.declared.fault.ServeFault.TheVariants as serves

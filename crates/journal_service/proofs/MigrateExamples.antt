@@ -1,4 +1,4 @@
--- Worked examples, computed by the definitions: lines of docs/COMMANDS.md, "migrate".
+-- Worked examples, computed by the definitions: lines of COMMANDS.md, "migrate".
 use Rattle.std.proofs.Common.{◌≡◌, refl, codes}
 use Rattle.std.specs.Fmt.{digits}
 use Rattle.journal_service.specs.Migrated.{migrated_line}

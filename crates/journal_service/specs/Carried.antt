@@ -1,4 +1,4 @@
--- Which journal `migrate` has carried over, by the words of its command line (docs/COMMANDS.md,
+-- Which journal `migrate` has carried over, by the words of its command line (COMMANDS.md,
 -- "migrate"; this project's choice).
 use Rattle.std.specs.Prelude.{◌≡◌, ℕ, List, [], length}
 use Rattle.command_line.specs.declared.arguments.Migrate.{Migrate}

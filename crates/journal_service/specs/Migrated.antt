@@ -1,4 +1,4 @@
--- What `migrate` writes on standard output (docs/COMMANDS.md, "migrate"; this project's choice).
+-- What `migrate` writes on standard output (COMMANDS.md, "migrate"; this project's choice).
 use Rattle.std.specs.Prelude.{ℕ, List, ◌++◌, codes}
 use Rattle.std.specs.Fmt.{decimal}
 

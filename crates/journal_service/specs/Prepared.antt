@@ -1,4 +1,4 @@
--- What became of a disk on which a journal was to be made (docs/COMMANDS.md, "serve"; this
+-- What became of a disk on which a journal was to be made (COMMANDS.md, "serve"; this
 -- project's choice).
 use Rattle.std.specs.Prelude.{◌≡◌, ℕ, List, []}
 use Rattle.journal_service.specs.declared.making.Unprepared.{Unprepared}

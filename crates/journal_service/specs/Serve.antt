@@ -1,4 +1,4 @@
--- Why `serve` ended before its report (docs/FAULTS.md, "Faults"; this project's choice).
+-- Why `serve` ended before its report (FAULTS.md, "Faults"; this project's choice).
 use Rattle.office_lines.specs.declared.fault.ServeFault.{ServeFault}
 use Rattle.office_lines.specs.declared.fault.ServeFault.TheVariants as serves
 use Rattle.text_io.specs.declared.fault.RunFault.TheVariants as runs

@@ -1,5 +1,5 @@
--- Worked examples, computed by the definitions: lines of docs/PROTOCOL.md, "Replay", whose answers no table of fares
--- decides, and the printed line of a bad line, as docs/FAULTS.md has it.
+-- Worked examples, computed by the definitions: lines of PROTOCOL.md, "Replay", whose answers no table of fares
+-- decides, and the printed line of a bad line, as FAULTS.md has it.
 use Rattle.std.proofs.Common.{◌≡◌, refl, pos, List, [], ◌∷◌, ◌++◌, Some, None, codes, ℕ, replicate}
 use Rattle.std.specs.Fmt.{digits}
 use Rattle.hex.proofs.OnLiterals.{hex_on_literals}

@@ -1,4 +1,4 @@
--- What `replay` has read and written where it ends (docs/PROTOCOL.md, "Replay"; this project's
+-- What `replay` has read and written where it ends (PROTOCOL.md, "Replay"; this project's
 -- choice).
 use Rattle.std.specs.Prelude.{◌≡◌, ℕ, List, Option, None}
 use Rattle.text_io.specs.Writing.{Ran}

@@ -1,4 +1,4 @@
--- What a fault of a replay prints, and which fault of a command it is (docs/FAULTS.md, "Faults";
+-- What a fault of a replay prints, and which fault of a command it is (FAULTS.md, "Faults";
 -- this project's choice).
 use Rattle.std.specs.Prelude.{codes, ℕ, List, ◌++◌}
 use Rattle.std.specs.Fmt.{decimal}

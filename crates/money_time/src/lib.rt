@@ -1,6 +1,6 @@
 //! Moments, fare days and windows: what a zone's clock shows, and what fares make of it.
 //!
-//! [`Zone::stamp`] gives a moment's fare day, minute and window, as docs/FARES.md says.
+//! [`Zone::stamp`] gives a moment's fare day, minute and window, as FARES.md says.
 #![tactic(auto)]
 
 mod date;

@@ -1,4 +1,4 @@
--- What is told of accepted touches that are ahead (docs/FAULTS.md, "A gate that is ahead"; this
+-- What is told of accepted touches that are ahead (FAULTS.md, "A gate that is ahead"; this
 -- project's choice). Lists of touches have the last one first.
 use Rattle.std.specs.Prelude.{◌≡◌, ◌<◌, ℕ, Bool, false, nat_eq, List, [], ◌∷◌, ◌++◌, Option, Some}
 use Rattle.std.specs.Prelude.{None, slice_index_or, option_to_list, if◌then◌else◌}

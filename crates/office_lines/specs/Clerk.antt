@@ -1,5 +1,5 @@
 -- What a connection's clerk answers to a request, and what it leaves of its seat and of its desk
--- (docs/PROTOCOL.md, "Requests and their answers"; this project's choice).
+-- (PROTOCOL.md, "Requests and their answers"; this project's choice).
 use Rattle.std.specs.Prelude.{◌≡◌, ◌⊎◌, ◌≤◌, ◌++◌, ◌∷◌, ℕ, List, take, length, Some, slice_get}
 use mathlib.Core.List.{IsPrefix}
 use Rattle.oyster_account.specs.declared.touch.Touch.{Touch}

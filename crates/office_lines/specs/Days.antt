@@ -1,4 +1,4 @@
--- Which touch is ahead of those of all other gates, by their fare days (docs/FAULTS.md, "A gate
+-- Which touch is ahead of those of all other gates, by their fare days (FAULTS.md, "A gate
 -- that is ahead"; this project's choice). Lists of touches have the last one first.
 use Rattle.std.specs.Prelude.{◌≡◌, ◌+◌, ℕ, not, nat_eq, nat_lt, List, [], ◌∷◌, Option, Some, None}
 use Rattle.std.specs.Prelude.{filter, if◌then◌else◌}

@@ -1,4 +1,4 @@
--- When it is told that gates wait while all lines are taken (docs/FAULTS.md, "What a running server
+-- When it is told that gates wait while all lines are taken (FAULTS.md, "What a running server
 -- tells"; this project's choice). A look is true where a gate waited then; lists of looks have the
 -- last one first.
 use Rattle.std.specs.Prelude.{◌≡◌, ℕ, Bool, true, false, List, [], ◌∷◌, Option, Some, None}

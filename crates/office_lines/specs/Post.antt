@@ -1,4 +1,4 @@
--- What serving leaves of a post (docs/COMMANDS.md, "The report"; this project's choice).
+-- What serving leaves of a post (COMMANDS.md, "The report"; this project's choice).
 use Rattle.std.specs.Prelude.{◌≡◌, ◌+◌, ◌≤◌, ℕ, List, All, Option, Some, None, length}
 use Rattle.gate_session.specs.declared.session.Served.{Served}
 use Rattle.gate_session.specs.Session.{HasCounted}

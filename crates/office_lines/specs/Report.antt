@@ -1,4 +1,4 @@
--- What `serve` writes on standard output (docs/COMMANDS.md, "The report"; this project's choice).
+-- What `serve` writes on standard output (COMMANDS.md, "The report"; this project's choice).
 use Rattle.std.specs.Prelude.{ℕ, ◌+◌, Bool, List, [], ◌∷◌, ◌++◌, Option, codes, if◌then◌else◌}
 use Rattle.std.specs.Fmt.{decimal}
 use Rattle.std.specs.Io.KnownBytes.{Appends}

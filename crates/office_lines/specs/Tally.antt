@@ -1,4 +1,4 @@
--- How a line's tally grows by its sessions (docs/COMMANDS.md, "The report"; this project's choice).
+-- How a line's tally grows by its sessions (COMMANDS.md, "The report"; this project's choice).
 use Rattle.std.specs.Prelude.{◌≡◌, ◌==◌, ℕ, ◌+◌, ◌≤◌, Bool, List, length, sum_by, count_by}
 use Rattle.std.specs.Prelude.{slice_index}
 use Rattle.std.specs.List.{All}

@@ -1,4 +1,4 @@
-//! What `serve` writes on standard output (docs/COMMANDS.md, "The report"). It takes no memory.
+//! What `serve` writes on standard output (COMMANDS.md, "The report"). It takes no memory.
 
 ghost use Rattle.std.specs.Prelude.{OnOk};
 ghost use Rattle.std.specs.Io.KnownBytes.{Appends};

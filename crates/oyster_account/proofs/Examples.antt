@@ -1,5 +1,5 @@
 -- The numbers that definitions and clauses take from the code, and worked examples, computed by the
--- definitions: each reply is that of docs/FARES.md, "Worked examples".
+-- definitions: each reply is that of FARES.md, "Worked examples".
 use Rattle.std.proofs.Common.{◌≡◌, refl, ℕ, ℤ, pos, ◌+◌, ◌-ℤ◌, ◌*◌, true, false, List, [], ◌∷◌, Some, None, map, codes}
 use Rattle.std.specs.Prelude.{◌/◌, ◌%◌, int_lt, if◌then◌else◌}
 use Rattle.jiff_core.specs.Calendar.{weekday_number}

@@ -19,7 +19,7 @@ const CARD_SIZE: usize = 400;
 const _: () = prove!(size_of::<Card>() <= CARD_SIZE);
 
 /// The account of one card, which keeps running sums: a touch costs the same however many came
-/// before it (docs/FARES.md, "A card and its history"). A copy goes on by itself.
+/// before it (FARES.md, "A card and its history"). A copy goes on by itself.
 #[derive(Clone, Copy, Debug)]
 pub struct Card {
     /// How many touches were applied, refused ones among them.
@@ -82,7 +82,7 @@ impl Card {
     ///
     /// The stamp is that of the touch's moment. The touch is no revision. The card's earlier
     /// touches had the same card number, and are fewer than `HISTORY_LIMIT`. The reply is that
-    /// of docs/FARES.md, "Verdicts". It takes no memory.
+    /// of FARES.md, "Verdicts". It takes no memory.
     pub fn judge(&self, schedule: &Schedule, touch: &Touch, stamp: &Stamp) -> (Reply, CardView)
         requires few { touches_in self.now < HISTORY_LIMIT }
         requires of_card { is_revision touch.now.act ≡ false }

@@ -1,4 +1,4 @@
--- Which numbers of options are allowed (docs/COMMANDS.md; this project's choice).
+-- Which numbers of options are allowed (COMMANDS.md; this project's choice).
 use Rattle.std.specs.Prelude.{◌≤◌, ℕ}
 
 -- the number is from the least to the most

@@ -1,4 +1,4 @@
--- The last fare day that a history has reached (docs/FARES.md, "Revision"; this project's choice):
+-- The last fare day that a history has reached (FARES.md, "Revision"; this project's choice):
 -- a revision counts from a later day on.
 use Rattle.std.specs.Prelude.{ℤ, pos, int_lt, Bool, false, not, Option, Some, None, if◌then◌else◌}
 use Rattle.oyster_account.specs.declared.reply.Reply.{Reply}

@@ -1,4 +1,4 @@
--- The tables that a book was given, and which of them is in force after a history (docs/FARES.md,
+-- The tables that a book was given, and which of them is in force after a history (FARES.md,
 -- "Revision"; this project's choice). Histories are oldest first.
 use Rattle.std.specs.Prelude.{◌≡◌, ℤ, Bool, true, List, [], ◌∷◌, is_some, Option, Some, None}
 use Rattle.std.specs.Prelude.{if◌then◌else◌}

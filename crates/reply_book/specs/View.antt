@@ -1,4 +1,4 @@
--- What is seen of a card after a history, and what a refused touch leaves (docs/FARES.md,
+-- What is seen of a card after a history, and what a refused touch leaves (FARES.md,
 -- "Balance", "Accepted and refused" and "Revision").
 use Rattle.std.specs.Prelude.{◌≡◌, ℕ, ℤ, pos, List, [], ◌∷◌, ◌++◌, if◌then◌else◌}
 use Rattle.oyster_account.specs.declared.touch.Act.{Act}

@@ -1,4 +1,4 @@
--- A commit as steps of a station (docs/OFFICE.md, "A commit"; docs/PROOFS.md, "A gate and its
+-- A commit as steps of a station (OFFICE.md, "A commit"; PROOFS.md, "A gate and its
 -- station").
 use Rattle.std.specs.Prelude.{ℕ, Bool, List, [], ◌∷◌, ◌++◌, Result, Ok, Err}
 use Rattle.oyster_account.specs.declared.touch.Touch.{Touch}

@@ -1,5 +1,5 @@
--- An opening behind a crash or an end as steps of a station (docs/OFFICE.md, "Rounds";
--- docs/PROOFS.md, "A gate and its station").
+-- An opening behind a crash or an end as steps of a station (OFFICE.md, "Rounds";
+-- PROOFS.md, "A gate and its station").
 use Rattle.std.specs.Prelude.{◌≡◌, ℕ, Bool, true, List, ◌∷◌}
 use Rattle.reply_book.specs.Tables.{Tables, listed, AreKnown}
 use Rattle.reply_book.specs.Legal.{touches_of}

@@ -1,5 +1,5 @@
 -- A gate and a station that came by a run of steps to where they are, through any number of calls
--- and crashes (docs/PROOFS.md, "A gate and its station"; this project's choice).
+-- and crashes (PROOFS.md, "A gate and its station"; this project's choice).
 use Rattle.std.specs.Prelude.{◌≡◌, ℕ, Bool, List, []}
 use Rattle.tap_disk.specs.declared.disk.Disk.{Ghosts}
 use Rattle.gate_client.specs.declared.client.Client.{Client}

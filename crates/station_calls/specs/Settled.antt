@@ -1,5 +1,5 @@
 -- A touch that is settled with a keeper, over bytes in memory: one run of the law over a station
--- and its gates (docs/PROOFS.md, "A gate and its station").
+-- and its gates (PROOFS.md, "A gate and its station").
 use Rattle.std.specs.Prelude.{◌≡◌, ℕ, Bool, List, [], ◌++◌, Result, Ok, Err}
 use Rattle.oyster_account.specs.declared.touch.Touch.{Touch}
 use Rattle.oyster_account.specs.declared.reply.Reply.{Reply}

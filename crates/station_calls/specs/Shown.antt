@@ -1,4 +1,4 @@
--- What a keeper shows of a station and its gates, and what a disk may hold of them (docs/OFFICE.md,
+-- What a keeper shows of a station and its gates, and what a disk may hold of them (OFFICE.md,
 -- "What the lock keeps"; this project's choice).
 use Rattle.std.specs.Prelude.{◌≡◌, ℕ, List, ◌++◌, not, Contains}
 use Rattle.oyster_account.specs.declared.touch.Touch.{Touch}

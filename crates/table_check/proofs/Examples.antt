@@ -1,4 +1,4 @@
--- Worked examples, computed by the definitions: the lines of docs/COMMANDS.md, "check", and the word that a definition
+-- Worked examples, computed by the definitions: the lines of COMMANDS.md, "check", and the word that a definition
 -- takes from the code.
 use Rattle.std.proofs.Common.{◌≡◌, refl, [], ◌∷◌, false, pos, codes}
 use Rattle.std.specs.Fmt.{digits}
@@ -21,7 +21,7 @@ table_with_a_fault :
 unfolding digits
 table_with_a_fault = refl
 
--- the lines of a journey: what docs/COMMANDS.md shows of one from station 1 to station 3
+-- the lines of a journey: what COMMANDS.md shows of one from station 1 to station 3
 a_journey : printed_quote (record {
   charge = 400;
   fare = record { pence = 400; lo = 1; hi = 3; off_peak = false };

@@ -1,4 +1,4 @@
--- Worked examples, computed by the definitions: values as docs/FAULTS.md, "The second line", tells them.
+-- Worked examples, computed by the definitions: values as FAULTS.md, "The second line", tells them.
 use Rattle.std.proofs.Common.{◌≡◌, refl, true, pos, negsuc, codes, Some}
 use Rattle.std.specs.Fmt.{digits}
 use Rattle.toml.specs.Data.{integer, boolean, array, item, no_items}
@@ -22,7 +22,7 @@ a_list : printed_value (array (item (integer (pos 3)) (item (integer (pos 2)) no
 unfolding digits
 a_list = refl
 
--- what may stand at some keys, as docs/FAULTS.md, "The second line", tells it
+-- what may stand at some keys, as FAULTS.md, "The second line", tells it
 what_may_stand_there :
     (printed_allowed (allowed_by (shape_of key.StationId)) ≡ codes "a whole number from 1 to 65535")
     × (printed_allowed (allowed_by (shape_of key.CapKind)) ≡ codes "\"anytime\" or \"off-peak\"")

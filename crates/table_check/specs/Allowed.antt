@@ -1,5 +1,5 @@
--- What may stand where a fault of a fare table is, and how it is told (docs/FAULTS.md, "The second
--- line"; docs/TABLE.md has the keys and their ranges; this project's choice).
+-- What may stand where a fault of a fare table is, and how it is told (FAULTS.md, "The second
+-- line"; TABLE.md has the keys and their ranges; this project's choice).
 use Rattle.std.specs.Prelude.{ℕ, List, [], ◌++◌, codes, Option, Some, None}
 use Rattle.std.specs.Fmt.{decimal, signed_decimal}
 use Rattle.fare_table.specs.Keys.{text_of}

@@ -1,4 +1,4 @@
--- What one table says otherwise than another, a line for each place (docs/COMMANDS.md, "check";
+-- What one table says otherwise than another, a line for each place (COMMANDS.md, "check";
 -- this project's choice).
 use Rattle.std.specs.Prelude.{ℕ, List, [], ◌∷◌, ◌++◌, codes, string_bytes, Option, Some, None}
 use Rattle.std.specs.Prelude.{if◌then◌else◌, Bool, true, false}

@@ -1,4 +1,4 @@
--- What `check` writes for the bytes of a table (docs/COMMANDS.md, "check"; this project's choice).
+-- What `check` writes for the bytes of a table (COMMANDS.md, "check"; this project's choice).
 use Rattle.std.specs.Prelude.{◌≡◌, ℕ, Bool, true, false, List, [], ◌∷◌, ◌++◌, length, codes}
 use Rattle.std.specs.Prelude.{string_bytes, Option, Some, None, Result, Ok, Err, if◌then◌else◌}
 use Rattle.std.specs.Str.{is_utf8}

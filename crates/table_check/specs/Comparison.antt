@@ -1,4 +1,4 @@
--- What `check --against` has written where it ends, and its status (docs/COMMANDS.md, "check"; this
+-- What `check --against` has written where it ends, and its status (COMMANDS.md, "check"; this
 -- project's choice).
 use Rattle.std.specs.Prelude.{◌≡◌, ◌⊎◌, ℕ, List, [], ◌∷◌, ◌++◌, codes, Option, Some, None}
 use Rattle.fare_schedule.specs.Schedule.{tables_of}

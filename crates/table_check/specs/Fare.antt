@@ -1,5 +1,5 @@
--- What a journey costs by a fare table, and the lines that tell it (docs/COMMANDS.md, "check";
--- docs/FARES.md has the rules).
+-- What a journey costs by a fare table, and the lines that tell it (COMMANDS.md, "check";
+-- FARES.md has the rules).
 use Rattle.std.specs.Prelude.{◌≡◌, ℕ, ◌+◌, ◌/◌, ◌%◌, true, List, [], ◌∷◌, ◌++◌, codes}
 use Rattle.std.specs.Prelude.{if◌then◌else◌}
 use Rattle.std.specs.Fmt.{decimal}

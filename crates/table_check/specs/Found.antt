@@ -1,4 +1,4 @@
--- What a table has where something is looked for, and how it is told (docs/FAULTS.md, "The second
+-- What a table has where something is looked for, and how it is told (FAULTS.md, "The second
 -- line"; this project's choice).
 use Rattle.std.specs.Prelude.{◌≡◌, ℕ, ◌-◌, ◌==◌, ◌++◌, true, false, List, length, take, slice_get}
 use Rattle.std.specs.Prelude.{codes, Option, Some, None, if◌then◌else◌}

@@ -1,4 +1,4 @@
--- What `check --fare` has written where it ends (docs/COMMANDS.md, "check"; this project's choice).
+-- What `check --fare` has written where it ends (COMMANDS.md, "check"; this project's choice).
 use Rattle.std.specs.Prelude.{◌≡◌, ◌⊎◌, ℕ, List, None}
 use Rattle.fare_table.specs.Fare.{Content, station_at}
 use Rattle.fare_table.specs.Fares.{content_of}

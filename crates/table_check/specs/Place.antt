@@ -1,4 +1,4 @@
--- A place in a text by its line and its column, both from 1 (docs/FAULTS.md, "The second line";
+-- A place in a text by its line and its column, both from 1 (FAULTS.md, "The second line";
 -- this project's choice).
 use Rattle.std.specs.Prelude.{ℕ, suc, Bool, not, ◌&&◌, ◌==◌, nat_le, nat_lt, List}
 use Rattle.std.specs.List.{count_by}

@@ -1,4 +1,4 @@
--- What `check` has written where it ends, and its status (docs/COMMANDS.md, "check"; this project's
+-- What `check` has written where it ends, and its status (COMMANDS.md, "check"; this project's
 -- choice).
 use Rattle.std.specs.Prelude.{◌≡◌, ℕ, Bool, not, ◌&&◌, List, if◌then◌else◌}
 use Rattle.table_check.specs.Check.{TableReport, HasBegun}

@@ -1,4 +1,4 @@
--- What a survey counts, and of which bytes there is one (docs/COMMANDS.md, "check"; this project's
+-- What a survey counts, and of which bytes there is one (COMMANDS.md, "check"; this project's
 -- choice).
 use Rattle.std.specs.Prelude.{◌≡◌, ℕ, List, [], ◌∷◌, length, codes, Option, Some, None}
 use Rattle.std.specs.Prelude.{if◌then◌else◌}

@@ -1,4 +1,4 @@
--- The tables that a command's words name, and why there are none (docs/FAULTS.md, "Faults"; this
+-- The tables that a command's words name, and why there are none (FAULTS.md, "Faults"; this
 -- project's choice). A file is said to have given some bytes by `gave`, of its path and of them.
 use Rattle.std.specs.Prelude.{◌≡◌, ◌⊎◌, ◌+◌, ℕ, List, [], ◌∷◌, ◌++◌, length, Option, Some, None}
 use Rattle.fare_table.specs.Faults.{first_fault, fault_in}

@@ -28,7 +28,7 @@ impl Drop for TableReport {
 }
 
 /// Reads a fare table to its end, and writes its numbers of rows and its digest, or the line of its
-/// fault (docs/COMMANDS.md, "check"). It answers whether the table is valid.
+/// fault (COMMANDS.md, "check"). It answers whether the table is valid.
 ///
 /// `Memory` and `Read` come before anything is written. At `Write` a beginning was.
 pub fn check_table<R: Read, W: Write>(

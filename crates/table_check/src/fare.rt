@@ -137,7 +137,7 @@ impl fmt::Display for Quote {
     }
 }
 
-/// The name of a window (docs/FARES.md, "Stamp").
+/// The name of a window (FARES.md, "Stamp").
 fn window_name(window: Window) -> &'static str
     ensures { result.now ≡ window_name window }
 {

@@ -44,7 +44,7 @@ pub struct Said {
     pub value: String,
 }
 
-/// What a table says at each place, in the order of docs/TABLE.md: its own keys, its rows and its
+/// What a table says at each place, in the order of TABLE.md: its own keys, its rows and its
 /// holidays. Keys that nobody knows aren't read.
 pub fn reading_of(alloc: Global, tree: &Table) -> Result<Vec<Said>, AllocError> {
     let mut said = Vec::new(alloc);

@@ -109,7 +109,7 @@ impl<'a> Sheet<'a> {
         naming(&self.tree, i64::from(station))
     }
 
-    /// What the table says at each place, in the order of docs/TABLE.md: its own keys, its rows and
+    /// What the table says at each place, in the order of TABLE.md: its own keys, its rows and
     /// its holidays. Keys that nobody knows aren't read. An `Err` is want of memory.
     pub fn reading(&self, alloc: Global) -> Result<Vec<Said>, AllocError> {
         reading_of(alloc, &self.tree)

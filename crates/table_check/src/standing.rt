@@ -45,7 +45,7 @@ pub enum Allowed {
     Date,
 }
 
-/// What docs/TABLE.md says of a key.
+/// What TABLE.md says of a key.
 #[derive(Clone, Copy)]
 struct Entry {
     /// The list whose rows have the key, and no text for a key of the table itself.
@@ -198,7 +198,7 @@ fn ordered(key: Key, allowed: Allowed) -> Allowed {
     }
 }
 
-/// What docs/TABLE.md says of a key.
+/// What TABLE.md says of a key.
 fn entry_of(key: Key) -> Entry
     ensures list { result.list.now ≡ list_text (list_of key) }
     ensures text { result.text.now ≡ text_of key }

@@ -1,5 +1,5 @@
 -- Which entries the version of a published copy is of, by which tables, and which version may
--- come after which (docs/ENQUIRIES.md; this project's choice).
+-- come after which (ENQUIRIES.md; this project's choice).
 use Rattle.std.specs.Prelude.{◌≡◌, ℕ, ◌+◌, true, List, [], ◌∷◌, ◌++◌, length, Option, Some}
 use Rattle.std.specs.Prelude.{slice_get}
 use mathlib.Core.Option.{some}

@@ -1,4 +1,4 @@
--- What a desk has learnt and seen (docs/ENQUIRIES.md; this project's choice).
+-- What a desk has learnt and seen (ENQUIRIES.md; this project's choice).
 use Rattle.std.specs.Prelude.{ℕ, List, [], ◌∷◌, Option}
 use mathlib.Core.List.{IsPrefix}
 use Rattle.logbook.specs.Pages.{Book}

@@ -1,4 +1,4 @@
--- What contracts see of a publisher, and what holds of it (docs/ENQUIRIES.md; this
+-- What contracts see of a publisher, and what holds of it (ENQUIRIES.md; this
 -- project's choice).
 use Rattle.std.specs.Prelude.{◌≡◌, ◌⊎◌, ℕ, ◌+◌, ◌≤◌, true, Bool, List, [], ◌∷◌, length, map}
 use Rattle.std.specs.Prelude.{Option, Some, slice_get}

@@ -1,4 +1,4 @@
--- What closing accounts for: which entries of the history belong to which seat (docs/OFFICE.md,
+-- What closing accounts for: which entries of the history belong to which seat (OFFICE.md,
 -- "Closing"; this project's choice).
 use Rattle.std.specs.Prelude.{◌≡◌, ℕ, ◌+◌, ◌≤◌, ◌==◌, List, [], ◌∷◌, Bool, true, Some}
 use Rattle.std.specs.Prelude.{if◌then◌else◌, slice_get, length, map, take, drop}

@@ -1,4 +1,4 @@
--- What an enquiry is answered (docs/OFFICE.md, "Enquiries"; this project's choice).
+-- What an enquiry is answered (OFFICE.md, "Enquiries"; this project's choice).
 use Rattle.std.specs.Prelude.{◌≡◌, ℕ, List, length, Option, Some}
 use mathlib.Core.List.{IsPrefix}
 use Rattle.reply_book.specs.declared.entry.Entry.{Entry}

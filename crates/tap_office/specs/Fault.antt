@@ -1,4 +1,4 @@
--- The numbers of the faults of a touch in a fault frame (docs/PROTOCOL.md, "Faults"; this project's
+-- The numbers of the faults of a touch in a fault frame (PROTOCOL.md, "Faults"; this project's
 -- choice).
 use Rattle.std.specs.Prelude.{ℕ}
 use Rattle.tap_office.specs.declared.fault.SubmitFault.{SubmitFault}

@@ -1,4 +1,4 @@
--- Openings with the same files of fare tables (docs/OFFICE.md, "Rounds"; this project's choice).
+-- Openings with the same files of fare tables (OFFICE.md, "Rounds"; this project's choice).
 use Rattle.std.specs.Prelude.{◌≡◌, ℕ, ◌<◌, List, [], ◌∷◌, Some, slice_get}
 use Rattle.std.specs.List.{All}
 use Rattle.sha2.specs.Sha256.{sha256}

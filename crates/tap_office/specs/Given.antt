@@ -1,4 +1,4 @@
--- The fare tables that an opening was given, and what goes by them (docs/OFFICE.md, "An opening";
+-- The fare tables that an opening was given, and what goes by them (OFFICE.md, "An opening";
 -- this project's choice).
 use Rattle.std.specs.Prelude.{◌≡◌, ℕ, Bool, false, List, Option, Some, None}
 use Rattle.oyster_account.specs.declared.touch.Touch.{Touch}

@@ -1,4 +1,4 @@
--- What a name of an opening stands for (docs/OFFICE.md, "The name"; this project's choice).
+-- What a name of an opening stands for (OFFICE.md, "The name"; this project's choice).
 use Rattle.std.specs.Prelude.{◌≡◌, ℕ, List, [], Option, None}
 use Rattle.logbook.specs.Pages.{Book as Logbook}
 use Rattle.tap_journal.specs.Layout.{Header, header_of}

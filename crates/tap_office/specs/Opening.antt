@@ -1,4 +1,4 @@
--- What contracts see of an opening, and of the seats that it makes (docs/OFFICE.md, "An opening";
+-- What contracts see of an opening, and of the seats that it makes (OFFICE.md, "An opening";
 -- this project's choice).
 use Rattle.std.specs.Prelude.{◌≡◌, ◌⊎◌, ℕ, ◌+◌, ◌≤◌, ◌<◌, List, [], length, false, Some}
 use Rattle.std.specs.Prelude.{Result, Ok, Err, Option, slice_index_or}

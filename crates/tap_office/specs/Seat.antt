@@ -1,4 +1,4 @@
--- What contracts see of a seat (docs/OFFICE.md, "Seats and receipts"; this project's choice).
+-- What contracts see of a seat (OFFICE.md, "Seats and receipts"; this project's choice).
 use Rattle.std.specs.Prelude.{ℕ, ◌+◌, List, [], ◌∷◌, ◌++◌, Bool, ◌&&◌, nat_le}
 use Rattle.tap_office.specs.declared.receipt.Filed.{Filed}
 

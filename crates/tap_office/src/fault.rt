@@ -2,7 +2,7 @@
 use std::alloc::AllocError;
 use thiserror::Error;
 
-/// Why a touch was not committed. The numbers are those of a fault frame (docs/PROTOCOL.md).
+/// Why a touch was not committed. The numbers are those of a fault frame (PROTOCOL.md).
 #[derive(Clone, Copy, Debug, PartialEq, Eq, Error)]
 pub enum SubmitFault {
     /// 2: the gate has used the touch's number for another touch.

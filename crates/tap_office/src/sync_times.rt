@@ -6,7 +6,7 @@ use libc::types::timespec;
 use std::sync::atomic::{AtomicU32, Ordering};
 
 /// From how many nanoseconds on a sync is long. A shorter one is over before a thread that sleeps
-/// is woken: handing over in turn would then cost more than the sync that it saves (docs/OFFICE.md,
+/// is woken: handing over in turn would then cost more than the sync that it saves (OFFICE.md,
 /// "Turns").
 const LONG_SYNC: u64 = 50_000;
 

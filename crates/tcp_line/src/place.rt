@@ -1,4 +1,4 @@
-//! Where the bytes of a gate stand in its frames (docs/PROTOCOL.md, "Frames").
+//! Where the bytes of a gate stand in its frames (PROTOCOL.md, "Frames").
 
 /// A place in a frame, which is its length in two bytes, the highest first, and then as many bytes.
 #[derive(Clone, Copy, Debug, PartialEq, Eq)]

@@ -1,4 +1,4 @@
--- Worked examples, computed by the definitions: the printed line of each fault, as docs/FAULTS.md has it.
+-- Worked examples, computed by the definitions: the printed line of each fault, as FAULTS.md has it.
 use Rattle.std.proofs.Common.{◌≡◌, refl, codes}
 use Rattle.text_io.specs.declared.fault.RunFault.TheVariants as fault
 use Rattle.text_io.specs.Texts.{printed_run_fault}

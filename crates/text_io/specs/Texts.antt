@@ -1,4 +1,4 @@
--- What a fault of a run prints (docs/FAULTS.md, "Faults"; this project's choice).
+-- What a fault of a run prints (FAULTS.md, "Faults"; this project's choice).
 use Rattle.std.specs.Prelude.{codes, ℕ, List}
 use Rattle.text_io.specs.declared.fault.RunFault.{RunFault}
 use Rattle.text_io.specs.declared.fault.RunFault.TheVariants.{Memory, Read, Write}

@@ -1,5 +1,5 @@
 //! What no clause says: worked examples of the account and of the touch's bytes, with the values of
-//! docs/FARES.md and docs/PROTOCOL.md, and the comparison with a plain account.
+//! FARES.md and PROTOCOL.md, and the comparison with a plain account.
 
 ghost use Rattle.std.specs.Prelude.{◌≡◌, ◌<◌, ◌+◌, List, length, IsTrue, OnOk};
 ghost use Rattle.oyster_account.specs.declared.reply.Judged.{Judged};
@@ -329,7 +329,7 @@ fn a_reply_has_the_code_of_its_verdict(rt: HostRuntime) {
     assert_same(&rt, Reply::unknown_card(), want);
 }
 
-/// Codes with the names that docs/FARES.md, "Verdicts", has for them, and some that have none.
+/// Codes with the names that FARES.md, "Verdicts", has for them, and some that have none.
 const VERDICTS: [(u8, Option<&str>); 22] = [
     (0, None),
     (1, Some("Entered")),

@@ -1,5 +1,5 @@
 //! A gate and a station over lines that lose what the tests say, with the values of
-//! docs/PROTOCOL.md.
+//! PROTOCOL.md.
 //!
 //! A client or station is let go of by a call of `drop`: a function in which one goes out of scope
 //! takes longer to prove.
@@ -42,7 +42,7 @@ pub(super) struct Row {
     pub(super) reply: Reply,
 }
 
-/// A card's first morning, of docs/PROTOCOL.md, "Requests and their answers": issued, topped up by
+/// A card's first morning, of PROTOCOL.md, "Requests and their answers": issued, topped up by
 /// 2000 pence, in at station 2.
 pub(super) const ROWS: [Row; 3] = [
     Row {

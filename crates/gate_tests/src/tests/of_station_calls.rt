@@ -18,7 +18,7 @@ use tap_disk::{Choice, MemoryDisk};
 use tap_journal::Journal;
 use tap_office::{Named, Opening};
 
-/// How many calls an append makes, of each of which a failure stops a journal (docs/JOURNAL.md,
+/// How many calls an append makes, of each of which a failure stops a journal (JOURNAL.md,
 /// "The steps of an append").
 const APPEND_CALLS: u64 = 4;
 

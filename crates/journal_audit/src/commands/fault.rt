@@ -38,6 +38,8 @@ pub enum CommandFault {
     Gate(GateFault),
     /// The touches of a card were asked for, and the journal has fewer cards than its number.
     Card { card: u32, cards: u32 },
+    /// The statement of this card was asked for, and the journal has no accepted issue of it.
+    Unissued(u32),
     /// The journal has fewer touches than balances were asked for behind: it has so many.
     Place(u32),
     /// So many open slots stand behind the journal's end, and the server was to look for them.
@@ -70,6 +72,7 @@ impl fmt::Display for CommandFault {
             CommandFault::Seal(fault) => write!(f, "fault seal {fault}"),
             CommandFault::Gate(fault) => write!(f, "fault gate {fault}"),
             CommandFault::Card { card, cards } => write!(f, "fault card {card} above {cards}"),
+            CommandFault::Unissued(card) => write!(f, "fault card {card} not issued"),
             CommandFault::Place(touches) => write!(f, "fault place {touches}"),
             CommandFault::Behind(slots, _) => write!(f, "fault behind {slots}"),
             CommandFault::Balance(card) => write!(f, "fault balance {card}"),

@@ -13,12 +13,12 @@ const READINGS: u32 = 10;
 
 /// What a journal's file held when it was read to its end.
 #[derive(Drop)]
-pub(crate) struct Settled {
+pub struct Settled {
     /// Its bytes.
-    pub(crate) bytes: Vec<u8>,
+    pub bytes: Vec<u8>,
     /// How many open slots stand behind the journal's end. `None` where the bytes are no journal,
     /// or there was no memory for its touches.
-    pub(crate) behind: Option<u32>,
+    pub behind: Option<u32>,
 }
 
 /// What the journal's file at this path holds, read to its end. Where it was read more than once,
@@ -28,7 +28,7 @@ pub(crate) struct Settled {
 /// have open marks, though nothing is wrong. So a file that has more of them than crashes leave is
 /// read again, until it has no more, or two readings in a row are the same: then it stands still.
 /// Of a file that changed at each of ten readings the last one counts.
-pub(crate) fn settled_file<R: AllocGlobal + Eprint, F: WholeFiles>(
+pub fn settled_file<R: AllocGlobal + Eprint, F: WholeFiles>(
     rt: &R,
     files: &F,
     path: &str,

@@ -15,15 +15,15 @@ use jiff_fmt::temporal::DateTimePrinter;
 pub(crate) const DAY_SECONDS: u32 = 86_400;
 
 /// The most bytes of a day: a date of a year before 0 has 13.
-pub(crate) const DAY_LIMIT: usize = 13;
+pub const DAY_LIMIT: usize = 13;
 /// The bytes of a second of the day.
-pub(crate) const CLOCK_SIZE: usize = 10;
+pub const CLOCK_SIZE: usize = 10;
 /// The most bytes of a moment.
 pub(crate) const MOMENT_LIMIT: usize = DAY_LIMIT + CLOCK_SIZE;
 
-/// Prints days, and keeps the last one: the next row of a history has it mostly, too.
+/// Prints days, and stores the last one, which the next row of a history mostly has, too.
 #[derive(Drop)]
-pub(crate) struct DayPrinter {
+pub struct DayPrinter {
     day: i32,
     text: ArrayString<DAY_LIMIT>,
     ghost told: { text.bytes ≡ day_text day },
@@ -31,13 +31,13 @@ pub(crate) struct DayPrinter {
 
 impl DayPrinter {
     /// One that has printed the first day of 1970.
-    pub(crate) fn new() -> DayPrinter {
+    pub fn new() -> DayPrinter {
         DayPrinter::of(0)
     }
 
     /// What is printed of a day, in days since 1970-01-01: its date, or its number where the
     /// calendar has none.
-    pub(crate) fn print(&mut self, day: i32) -> &[u8]
+    pub fn print(&mut self, day: i32) -> &[u8]
         ensures text { result.now ≡ day_text day }
         ensures short { length result.now ≤ DAY_LIMIT }
     {
@@ -85,8 +85,8 @@ fn printed_number(day: i32) -> ArrayString<DAY_LIMIT>
     text
 }
 
-/// A second of the day.
-pub(crate) fn clock(second: u32) -> [u8; CLOCK_SIZE]
+/// A second of the day in UTC, as `T08:00:00Z`.
+pub fn clock(second: u32) -> [u8; CLOCK_SIZE]
     requires { second < 86_400 }
     ensures { result ≡ clock_text second }
 {

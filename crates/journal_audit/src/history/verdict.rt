@@ -21,7 +21,7 @@ pub(crate) fn put_verdict(line: &mut LineEnd, verdict: u8)
     line.put(verdict_field(verdict).as_bytes());
 }
 
-/// The name of the verdict that has this code (docs/FARES.md, "Verdicts"). It is empty where none
+/// The name of the verdict that has this code (FARES.md, "Verdicts"). It is empty where none
 /// has: no reply comes with it.
 #[tactic(auto, unfolding(crate::specs::HistoryRow::verdict_field))]
 fn verdict_field(verdict: u8) -> &'static str

@@ -102,7 +102,7 @@ const fn top_up(gate: u16, number: u32, pence: u32) -> Touch {
     }
 }
 
-/// The replies to the four, by docs/PROTOCOL.md.
+/// The replies to the four, by PROTOCOL.md.
 const REPLIES: [Reply; 4] = [
     Reply {
         verdict: 8,

@@ -1,4 +1,4 @@
-//! Worked examples of a book, with the values of docs/PROTOCOL.md.
+//! Worked examples of a book, with the values of PROTOCOL.md.
 //!
 //! Each test lets go of its book by a call of `drop`: a function in which a book goes out of scope
 //! takes several times as long to prove.

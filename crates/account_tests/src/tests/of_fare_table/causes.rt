@@ -1,4 +1,4 @@
-//! A fault of each cause that a text can have. scripts/tests/bad-tables has the others.
+//! A fault of each cause that a text can have. The bad tables of scripts/tests have the others.
 use super::refused::{LOW_MAXIMUM, NO_SINGLE, SIXTH_STATION};
 use super::{Change, assert_same, changed};
 use fare_table::{EXAMPLE_TABLE, Fares, Key, TableFault};

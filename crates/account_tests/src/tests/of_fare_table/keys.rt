@@ -1,4 +1,4 @@
-//! What each key of a table holds, by docs/TABLE.md, "Keys".
+//! What each key of a table holds, by TABLE.md, "Keys".
 use super::assert_same_at;
 use fare_table::{Key, Shape};
 

@@ -1,4 +1,4 @@
-//! Readings that are refused memory. `scripts/tests/refuse-memory` refuses each allocation of these
+//! Readings that are refused memory. A script of `scripts/tests` refuses each allocation of these
 //! tests in turn: the call that met it is made again, and has to answer as with ample memory.
 use super::fares::assert_example;
 use super::{Change, assert_same};

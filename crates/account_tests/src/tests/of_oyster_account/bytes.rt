@@ -1,4 +1,4 @@
-//! The bytes of a touch, with the values of docs/PROTOCOL.md.
+//! The bytes of a touch, with the values of PROTOCOL.md.
 
 use super::*;
 use oyster_account::{read_i32, read_u16, read_u32};

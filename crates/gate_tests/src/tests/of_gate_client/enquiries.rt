@@ -1,5 +1,5 @@
 //! Enquiries: lines that ask for one, what is written and read, lines that fail, and what is
-//! printed. The frames are those of docs/PROTOCOL.md, "Requests and their answers".
+//! printed. The frames are those of PROTOCOL.md, "Requests and their answers".
 use super::sending::{Script, assert_printed, line_of};
 use super::*;
 use gate_client::{Holding, HoldingTold, TryFault, ask_after, enquire, enquired_by};

@@ -133,7 +133,7 @@ fn assert_told(rt: &impl Abort, alloc: Global, row: &Row, verdict: u8, want: &st
     assert_printed(rt, alloc, &told, want);
 }
 
-/// The names of verdicts in docs/FARES.md, "Verdicts", as a reply to the issue tells them.
+/// The names of verdicts in FARES.md, "Verdicts", as a reply to the issue tells them.
 const NAMES: [(u8, &str); 20] = [
     (1, "7,1,1,issue,,,Entered,0,0"),
     (2, "7,1,1,issue,,,EnteredContinued,0,0"),

@@ -1,7 +1,7 @@
 //! A station by a script: what a station does of a card's first morning, and no more.
 use super::*;
 
-/// A station that knows the rows, each touch with the reply that docs/PROTOCOL.md has for it. It
+/// A station that knows the rows, each touch with the reply that PROTOCOL.md has for it. It
 /// enters a row's touch behind those before it, repeats its reply, and answers whatever else by a
 /// fault.
 #[derive(Drop)]

@@ -1,5 +1,5 @@
 //! What no clause says of balances: worked journals with their rows, and what stands where a write
-//! or an allocation fails. The amounts are those of docs/FARES.md, "Worked examples".
+//! or an allocation fails. The amounts are those of FARES.md, "Worked examples".
 
 ghost use Rattle.std.specs.Prelude.{◌≡◌, [], IfSome};
 ghost use Rattle.fare_schedule.specs.Schedule.{revisions_of};

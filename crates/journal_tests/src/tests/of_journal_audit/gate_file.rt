@@ -10,7 +10,7 @@ use std::process::Abort;
 use std::test::Fail;
 
 /// The file of gate 7 with room for 5 touches: the header, the issue of card 1 and its top-up by
-/// 2000 pence, and the closed mark of the third slot (docs/JOURNAL.md, "A gate's file").
+/// 2000 pence, and the closed mark of the third slot (JOURNAL.md, "A gate's file").
 const FILE: [u8; 193] = *b"\xa5OYSTERJ2\x00\x00\x00\x05\x00\x00\x00\x01\
     touches of one gate, by number\x00\x07\
     \x00\x00\x00\x00\x00\x00\x00\x00\x00\x00\x00\x00\x00\x00\x00\

@@ -1,5 +1,5 @@
 //! What no clause says of histories: worked journals with their rows and frames, and what stands
-//! where a write or an allocation fails. The rows are those of docs/FARES.md, "Worked examples",
+//! where a write or an allocation fails. The rows are those of FARES.md, "Worked examples",
 //! and "Verdicts".
 
 ghost use Rattle.std.specs.Prelude.{◌≡◌, [], IfSome};

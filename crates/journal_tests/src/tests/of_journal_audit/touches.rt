@@ -1,4 +1,4 @@
-//! Touches that are entered in a book by tables. The replies are those of docs/FARES.md, "Worked
+//! Touches that are entered in a book by tables. The replies are those of FARES.md, "Worked
 //! examples".
 
 use super::history::example;

@@ -1,4 +1,4 @@
-//! Calls that are refused memory and made again. `scripts/tests/refuse-memory` runs these with each
+//! Calls that are refused memory and made again. A script of `scripts/tests` runs these with each
 //! of their allocations refused in turn: every other answer is that of ample memory.
 ghost use Rattle.std.specs.Prelude.{◌≡◌, []};
 ghost use Rattle.fare_schedule.specs.Schedule.{revisions_of};

@@ -4,7 +4,7 @@ use super::*;
 use std::sync::Wait;
 use tap_disk::Disk;
 
-/// A journal of the first format (docs/JOURNAL.md, "The format"): its header, of capacity 5 and 10
+/// A journal of the first format (JOURNAL.md, "The format"): its header, of capacity 5 and 10
 /// cards with the digest of the example table, and slots of the touches 1 to 4 of docs/vectors.txt:
 /// the issue, the top-up, the touch in and the touch out. A fifth slot's closed mark stands behind
 /// them.
@@ -53,7 +53,7 @@ fn carried_over(alloc: Global, capacity: u8) -> Option<MemoryDisk> {
     }
 }
 
-/// The bytes of a reply, as an answer has them (docs/PROTOCOL.md, "Answers").
+/// The bytes of a reply, as an answer has them (PROTOCOL.md, "Answers").
 fn bytes_of(reply: &Reply) -> [u8; 13] {
     let [c0, c1, c2, c3] = reply.change.to_be_bytes();
     let [b0, b1, b2, b3, b4, b5, b6, b7] = reply.balance.to_be_bytes();

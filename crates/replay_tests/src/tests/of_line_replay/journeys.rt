@@ -1,5 +1,5 @@
 //! Journeys by lines in and lines out, on the example table: the amounts are worked out by hand
-//! from the rules of docs/FARES.md.
+//! from the rules of FARES.md.
 
 use super::assert_replayed;
 use std::alloc::{AllocError, Global};

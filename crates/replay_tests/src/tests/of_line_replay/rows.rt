@@ -1,5 +1,5 @@
-//! Worked lines, each with its answer: the examples of docs/PROTOCOL.md, "Requests and their
-//! answers", and of docs/FARES.md, "Worked examples". Each table begins with an empty history, but
+//! Worked lines, each with its answer: the examples of PROTOCOL.md, "Requests and their
+//! answers", and of FARES.md, "Worked examples". Each table begins with an empty history, but
 //! for `ASKED_AGAIN`, which follows `FIRST_PATH`.
 
 /// An issue, a top-up of 2000, in at 2, and out at 1.

@@ -1,4 +1,4 @@
-//! Touches of a list, each entered with its stamp: the journey of docs/FARES.md, "Revision", over
+//! Touches of a list, each entered with its stamp: the journey of FARES.md, "Revision", over
 //! the start of a fare day.
 
 ghost use Rattle.std.specs.Prelude.{◌≡◌, ◌<◌, ◌+◌, length};

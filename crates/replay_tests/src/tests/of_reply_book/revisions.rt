@@ -1,4 +1,4 @@
-//! Revisions in a book, with the values of docs/FARES.md, "Revision".
+//! Revisions in a book, with the values of FARES.md, "Revision".
 
 ghost use Rattle.std.specs.Prelude.{◌≡◌, ◌<◌, length, []};
 ghost use Rattle.fare_schedule.specs.Schedule.{revisions_of};

@@ -1,4 +1,4 @@
-//! Touches with the replies that they are to get: the values of docs/PROTOCOL.md.
+//! Touches with the replies that they are to get: the values of PROTOCOL.md.
 
 use oyster_account::{Act, CardState, CardView, Reply, Touch};
 

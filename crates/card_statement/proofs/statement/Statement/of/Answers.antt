@@ -94,4 +94,6 @@ returns c =
       statement = c.summed.ensures.value
           ∙ ap (λ (l : List DayContent). statement_with l c.gather.new.top_ups.items) rows
           ∙ ap (statement_with (day_rows scheme taps)) c.in_ok-gathered.ensures.top_ups;
+      paid_in = c.summed.ensures.paid_in;
+      charged = c.summed.ensures.charged;
     }

@@ -19,7 +19,7 @@ const REVISED: [&str; 2] = [
     1708bef1d8124f49753d74c29fa7192b3da703a42481f59504b76a41ec002428,,BadDay,0,0",
 ];
 
-/// Touches of the cards 1 and 2 on 2025-01-06, each with the end of its row. By docs/FARES.md,
+/// Touches of the cards 1 and 2 on 2025-01-06, each with the end of its row. By FARES.md,
 /// "Worked examples": issue, top up 9001, 50000, 50001, 9000, 1, issue again, in at 9; on another
 /// card issue, top up 189, 08:00 in at 2, top up 1, 08:00 in at 2, 07:59 out at 2; and cards that
 /// weren't issued.
@@ -76,7 +76,7 @@ const TOUCHES: [(&str, &str); 14] = [
     ),
 ];
 
-/// A card with 2000 pence by docs/FARES.md, "Worked examples": out 1 at 08:00 with no touch in, in
+/// A card with 2000 pence by FARES.md, "Worked examples": out 1 at 08:00 with no touch in, in
 /// 4 at 08:05; the second in 2 at 08:00 and again at 08:10, out 1 at 08:30; the third in 2 at
 /// 08:00, out 1 at 08:25, in 4 at 08:33; the fourth in 2 at 08:00 and out 1 at 09:30:01.
 const JOURNEYS: [(&str, &str); 18] = [
