@@ -1,4 +1,4 @@
--- Worked examples, computed by the definitions: the limits of docs/COMMANDS.md, and what is said of a wrong number.
+-- Worked examples, computed by the definitions: the limits of COMMANDS.md, and what is said of a wrong number.
 use Rattle.std.proofs.Common.{◌≡◌, ◌*◌, refl, ◌++◌, codes}
 use Rattle.std.specs.Fmt.{decimal, digits}
 use Rattle.command_line.specs.declared.arguments.TheConstants.{CARDS_LIMIT, CAPACITY_LIMIT, LINES_LIMIT}

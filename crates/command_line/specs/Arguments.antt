@@ -1,6 +1,6 @@
--- Which command lines are allowed (docs/COMMANDS.md; this project's choice). proofs/Examples.antt
+-- Which command lines are allowed (COMMANDS.md; this project's choice). proofs/Examples.antt
 -- computes the limits.
-use Rattle.std.specs.Prelude.{◌≡◌, ◌≤◌, IfSome, length}
+use Rattle.std.specs.Prelude.{◌≡◌, ◌≤◌, ◌≤ℤ◌, ℤ, IfSome, length, Option, Some, None}
 use Rattle.program_options.specs.Numbers.{IsWithin}
 use Rattle.command_line.specs.declared.arguments.Arguments.{Arguments}
 use Rattle.command_line.specs.declared.arguments.Arguments.TheVariants as asked
@@ -18,6 +18,7 @@ use Rattle.command_line.specs.declared.history.History.{History}
 use Rattle.command_line.specs.declared.seal.Seal.{Seal}
 use Rattle.command_line.specs.declared.seal.Sealed.{Sealed}
 use Rattle.command_line.specs.declared.seal.TheConstants.{SEAL_SIZE}
+use Rattle.command_line.specs.declared.statement.Statement.{Statement}
 
 -- a station has 1 to 100,000 cards and a journal of 1 to 1,000,000 touches, and a server 1 to 64
 -- lines; a line is done, if at all, after 1 to 1,000,000 connections, a silent gate is given up, if
@@ -49,6 +50,17 @@ pub record IsVerifyAllowed (verify : Verify) : Type 0 where
 abbrev pub IsHistoryAllowed : History → Type 0
 IsHistoryAllowed history = IfSome history.card (IsWithin CARDS_LIMIT)
 
+-- the first day, if there is one, is not after the last, if there is one
+abbrev pub IsUpTo : Option ℤ → Option ℤ → Type 0
+IsUpTo (Some from) (Some to) = from ≤ℤ to
+IsUpTo (Some from) None = Unit {0}
+IsUpTo None to = Unit {0}
+
+-- a statement is that of a card with one of 100,000 numbers, for days from the first to the last
+pub record IsStatementAllowed (statement : Statement) : Type 0 where
+  pub card : IsWithin CARDS_LIMIT statement.card
+  pub days : IsUpTo statement.from statement.to
+
 -- balances are told after at most 1,000,000 touches
 abbrev pub IsBalancesAllowed : Balances → Type 0
 IsBalancesAllowed balances = IfSome balances.at (λ touches. touches ≤ CAPACITY_LIMIT)
@@ -73,3 +85,4 @@ IsAllowed (asked.Migrate migrate) = IsWithin CARDS_LIMIT migrate.cards
 IsAllowed (asked.Verify verify) = IsVerifyAllowed verify
 IsAllowed (asked.History history) = IsHistoryAllowed history
 IsAllowed (asked.Balances balances) = IsBalancesAllowed balances
+IsAllowed (asked.Statement statement) = IsStatementAllowed statement

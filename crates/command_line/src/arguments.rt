@@ -12,6 +12,7 @@ use crate::commands::{command, command_named, wrong_number};
 use crate::history::{History, history_asked};
 use crate::number::{number_asked, short_in};
 use crate::seal::{Seal, seal_asked};
+use crate::statement::{Statement, statement_asked};
 use clap::error::ErrorKind;
 use clap::{ArgMatches, Command, Error};
 use program_options::{NOT_DECIMAL, number_given};
@@ -55,6 +56,8 @@ pub enum Arguments<'a> {
     History(History<'a>),
     /// Write the balances of a journal's cards, from its file alone.
     Balances(Balances<'a>),
+    /// Print a card's statement, from a journal's file alone.
+    Statement(Statement<'a>),
 }
 
 /// What a server is asked for.
@@ -128,6 +131,10 @@ const NOT_A_SEAL: &str = "a number is written in the digits 0 to 9 alone, a gate
 const NOT_A_CARD_OR_DAY: &str =
     "a card's number is written in the digits 0 to 9 alone, and a day is a date, as 2025-01-07";
 
+/// What is printed if a first or last day is no date, or if the first is after the last.
+const NOT_DAYS: &str =
+    "a first and a last day are dates, as 2025-01-07, and the first is not after the last";
+
 /// What stands for a journey that is none.
 const NOT_A_JOURNEY: &str = "a journey is the numbers of two stations, from 1 to 65535 in the \
 digits 0 to 9 alone, and a moment in UTC, as 2025-01-07T08:30:00Z";
@@ -192,6 +199,7 @@ fn refused_by(name: &str) -> &'static str {
         "verify" => NOT_A_SEAL,
         "history" => NOT_A_CARD_OR_DAY,
         "balances" => NOT_A_COUNT,
+        "statement" => NOT_DAYS,
         _ => NOT_DECIMAL,
     }
 }
@@ -240,6 +248,7 @@ fn asked_by<'a>(
         "verify" => verify_asked(inner, revisions),
         "history" => history_of(inner, revisions),
         "balances" => balances_of(inner, revisions),
+        "statement" => statement_of(inner, revisions),
         _ => None,
     }
 }
@@ -365,4 +374,11 @@ fn balances_of<'a>(matches: &ArgMatches<'a>, revisions: Vec<&'a str>) -> Option<
     ensures { IfSome result IsAllowed }
 {
     Some(Arguments::Balances(balances_asked(matches, revisions)?))
+}
+
+/// The statement that the matches of its command ask for.
+fn statement_of<'a>(matches: &ArgMatches<'a>, revisions: Vec<&'a str>) -> Option<Arguments<'a>>
+    ensures { IfSome result IsAllowed }
+{
+    Some(Arguments::Statement(statement_asked(matches, revisions)?))
 }

@@ -4,7 +4,7 @@
 mod audits;
 mod gates;
 
-use self::audits::{BALANCES, HISTORY, VERIFY};
+use self::audits::{BALANCES, HISTORY, STATEMENT, VERIFY};
 use self::gates::{CHECK, MIGRATE, REPLAY, SERVE};
 use crate::number::{WrongNumber, wrong_value};
 use clap::{Arg, ArgAction, ArgMatches, Command, Error};
@@ -18,7 +18,9 @@ const NAME: &str = "bovtrila";
 const ABOUT: &str = "Answers the touches of Oyster pay as you go";
 
 /// The commands, in the order of the help.
-const COMMANDS: [Described; 7] = [REPLAY, CHECK, SERVE, MIGRATE, VERIFY, HISTORY, BALANCES];
+const COMMANDS: [Described; 8] = [
+    REPLAY, CHECK, SERVE, MIGRATE, VERIFY, HISTORY, BALANCES, STATEMENT,
+];
 
 /// A command, as it is described.
 struct Described {

@@ -48,7 +48,7 @@ pub(crate) fn history_asked<'a>(
     let table = matches.get_str("table")?;
     let journal = matches.get_str("journal")?;
     let card = number_given(matches, "card", 1, CARDS_LIMIT)?;
-    let day = day_asked(matches)?;
+    let day = day_asked(matches, "day")?;
     let format = format_asked(matches)?;
     Some(History {
         table,
@@ -60,9 +60,9 @@ pub(crate) fn history_asked<'a>(
     })
 }
 
-/// The fare day that is asked for. `None` where it is no date.
-fn day_asked(matches: &ArgMatches<'_>) -> Option<Option<i32>> {
-    match matches.get_str("day") {
+/// The fare day of the option of this name, if it is given. `None` if it is no date.
+pub(crate) fn day_asked(matches: &ArgMatches<'_>, name: &str) -> Option<Option<i32>> {
+    match matches.get_str(name) {
         Some(text) => Some(Some(day_of(text).ok()?)),
         None => Some(None),
     }

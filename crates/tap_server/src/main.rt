@@ -11,6 +11,7 @@ use journal_audit::{
 };
 use journal_service::{System, explained_migrate, serve_gates, standard_files};
 use line_replay::replay_input;
+use statement_command::explained_statement;
 use std::fs::File;
 use std::io;
 use std::io::Write;
@@ -77,5 +78,6 @@ fn done<
         Arguments::Verify(asked) => explained_verify(rt, &files, &asked, output),
         Arguments::History(asked) => explained_history(rt, &files, &asked, output),
         Arguments::Balances(asked) => explained_balances(rt, &files, &asked, output),
+        Arguments::Statement(asked) => explained_statement(rt, &files, &asked, output),
     }
 }

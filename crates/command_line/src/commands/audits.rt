@@ -1,33 +1,34 @@
-//! The commands that read a journal alone.
+//! The commands that only read a journal.
 
 use super::{Described, Parameter, Rule, Takes};
 use crate::arguments::{CAPACITY_LIMIT, CARDS_LIMIT};
 use crate::history::FORMATS;
+use crate::statement::STATEMENT_FORMATS;
 
 /// What `verify` does.
-const VERIFY_ABOUT: &str = "Says whether a file is a sound journal, or what is wrong with it";
+const VERIFY_ABOUT: &str = "Checks a journal, and prints what it contains or its first fault";
 
 /// How `verify` is called, and how it ends.
 const VERIFY_EXAMPLE: &str = "Example:
   bovtrila verify --journal station.journal
 
-Example, with the tables that the journal names, and a seal of its touches:
+Example, with the tables that the journal names, and with a seal of its touches:
   bovtrila verify --journal station.journal --table fares.toml --seal fares-2026.toml
 
-Example, by what the station's papers say:
+Example, with the numbers of the station's documents:
   bovtrila verify --journal station.journal --expect-cards 1000 --expect-capacity 1000000
 
 Example, the file of a gate:
   bovtrila verify --journal gate-7.journal --gate 7
 
-The journal is only read, and stays as it is. A server may go on with it.
+The command only reads the journal, without a lock. A server may run meanwhile.
 
-Statuses: 0 the journal is sound, 1 a fault (standard error has its line),
-2 a wrong command line, 3 sound, but more than two slots behind its end are open,
+Statuses: 0 the journal is sound, 1 a fault (on standard error),
+2 a wrong command line, 3 sound, but more than two slots after its end are valid,
 141 nobody reads the output";
 
 /// What `history` does.
-const HISTORY_ABOUT: &str = "Writes each touch of a journal with its reply, oldest first";
+const HISTORY_ABOUT: &str = "Prints each touch of a journal with its reply, oldest first";
 
 /// How `history` is called, and how it ends.
 const HISTORY_EXAMPLE: &str = "Example:
@@ -41,13 +42,13 @@ Example, a replay of the journal:
   bovtrila history --table fares.toml --journal station.journal --format frames |
     bovtrila replay --table fares.toml --cards 1000
 
-The journal is only read, and stays as it is. A server may go on with it.
+The command only reads the journal, without a lock. A server may run meanwhile.
 
-Statuses: 0 the history is written, 1 a fault (standard error has its line),
+Statuses: 0 the history is printed, 1 a fault (on standard error),
 2 a wrong command line, 141 nobody reads the output";
 
 /// What `balances` does.
-const BALANCES_ABOUT: &str = "Writes what each issued card of a journal holds";
+const BALANCES_ABOUT: &str = "Prints the balance of each issued card of a journal";
 
 /// How `balances` is called, and how it ends.
 const BALANCES_EXAMPLE: &str = "Example:
@@ -56,13 +57,31 @@ const BALANCES_EXAMPLE: &str = "Example:
 Example, after the first 5000 touches:
   bovtrila balances --table fares.toml --journal station.journal --at 5000
 
-The sums over all cards go to standard error. The journal is only read, and stays as it is. A
-server may go on with it.
+Standard error has the sums over all cards. The command only reads the journal, without a lock. A
+server may run meanwhile.
 
-Statuses: 0 each balance is what was paid in less what was charged, 1 a fault (standard error has
-its line), 2 a wrong command line, 141 nobody reads the output";
+Statuses: 0 the balances are printed, and each is what was paid in less what was charged,
+1 a fault (on standard error), 2 a wrong command line, 141 nobody reads the output";
 
-/// What a seal is, as it is written.
+/// What `statement` does.
+const STATEMENT_ABOUT: &str =
+    "Prints a card's statement: its charges for each day, and the reasons";
+
+/// How `statement` is called, and how it ends.
+const STATEMENT_EXAMPLE: &str = "Example:
+  bovtrila statement --table fares.toml --journal station.journal --card 17
+
+Example, one week, as comma-separated values, with a further table that the journal names:
+  bovtrila statement --table fares.toml --journal station.journal --card 17 \\
+    --from 2025-01-06 --to 2025-01-12 --format csv fares-2026.toml
+
+Amounts are in pounds in text, and in pence in csv and json. The command only reads the journal,
+without a lock. A server may run meanwhile.
+
+Statuses: 0 the statement is printed, 1 a fault (on standard error),
+2 a wrong command line, 141 nobody reads the output";
+
+/// The parts of a seal on a command line.
 const SEAL_VALUES: [&str; 2] = ["N", "DIGEST"];
 
 /// The command `verify`.
@@ -101,6 +120,15 @@ pub(super) const BALANCES: Described = Described {
     parameters: &[MADE_BY, JOURNAL, AT, NAMED],
 };
 
+/// The command `statement`.
+pub(super) const STATEMENT: Described = Described {
+    name: "statement",
+    about: STATEMENT_ABOUT,
+    usage: None,
+    example: STATEMENT_EXAMPLE,
+    parameters: &[MADE_BY, JOURNAL, OF_CARD, FROM, TO, STATEMENT_FORMAT, NAMED],
+};
+
 /// The journal that is read.
 const JOURNAL: Parameter = Parameter {
     name: "journal",
@@ -117,13 +145,13 @@ const MADE_BY: Parameter = Parameter {
     help: "The file of the first fare table that the journal was made with",
 };
 
-/// The first table that a journal is held against, where one is named.
+/// The first table that a journal is compared with, if one is named.
 const HELD_AGAINST: Parameter = Parameter {
     name: "table",
     takes: Takes::Text("FILE"),
     rule: Rule::Optional,
     help: "The file of the first fare table that the journal was made with;
-without it no table is looked at",
+without it the command reads no table",
 };
 
 /// The tables that a journal's revisions name.
@@ -142,79 +170,112 @@ const NAMED_BESIDE: Parameter = Parameter {
     help: "Files of further fare tables, with --table: all that the journal names",
 };
 
-/// What makes a seal.
+/// Whether a seal is printed.
 const SEAL: Parameter = Parameter {
     name: "seal",
     takes: Takes::Flag,
     rule: Rule::Optional,
-    help: "Writes a seal of the journal's touches: their number and a digest",
+    help: "Prints a seal of the journal's touches: their number and a digest",
 };
 
-/// What holds a journal against a seal.
+/// The seal that a journal is compared with.
 const SEALED: Parameter = Parameter {
     name: "sealed",
     takes: Takes::Pair(&SEAL_VALUES),
     rule: Rule::Optional,
-    help: "Says whether the journal's first N touches are still those of a seal:
+    help: "Checks that the journal's first N touches are still those of a seal:
 N from 0 to 1000000, and 64 hexadecimal digits; with --seal
-a new seal is made of the same bytes",
+the new seal is made from the same bytes",
 };
 
-/// How many cards a journal has to be of.
+/// The number of cards that a journal has to have.
 const EXPECT_CARDS: Parameter = Parameter {
     name: "expect-cards",
     takes: Takes::Number("N", CARDS_LIMIT),
     rule: Rule::Optional,
-    help: "Refuses a journal of another number of cards, from 1 to 100000",
+    help: "Refuses a journal with another number of cards; N from 1 to 100000",
 };
 
-/// For how many touches a journal has to have room in all.
+/// The capacity that a journal has to have.
 const EXPECT_CAPACITY: Parameter = Parameter {
     name: "expect-capacity",
     takes: Takes::Number("N", CAPACITY_LIMIT),
     rule: Rule::Optional,
-    help: "Refuses a journal of another capacity, from 1 to 1000000",
+    help: "Refuses a journal with another capacity; N from 1 to 1000000",
 };
 
-/// The gate of which the journal is the file.
+/// The gate whose file the journal is.
 const GATE: Parameter = Parameter {
     name: "gate",
     takes: Takes::Text("N"),
     rule: Rule::Without(&["table", "revisions"]),
-    help: "Says whether the file is that of the gate of this number, from 0
+    help: "Checks that the file is that of the gate with this number, from 0
 to 65535; not with --table: a gate has no fares",
 };
 
-/// Which card's touches are written.
+/// The card whose touches are printed.
 const CARD: Parameter = Parameter {
     name: "card",
     takes: Takes::Number("N", CARDS_LIMIT),
     rule: Rule::Optional,
-    help: "Writes the touches of this card alone, from 1 to 100000",
+    help: "Prints only the touches of this card, from 1 to 100000",
 };
 
-/// Which day's touches are written.
+/// The day whose touches are printed.
 const DAY: Parameter = Parameter {
     name: "day",
     takes: Takes::Text("DATE"),
     rule: Rule::Optional,
-    help: "Writes the touches of this fare day alone: a date, as 2025-01-07",
+    help: "Prints only the touches of this fare day, a date as 2025-01-07",
 };
 
-/// As what touches are written.
+/// The format of a history.
 const FORMAT: Parameter = Parameter {
     name: "format",
     takes: Takes::Word("FORMAT", FORMATS),
     rule: Rule::Optional,
-    help: "As csv, with a heading, or as frames, request lines that replay reads;
-without it as csv",
+    help: "The output format: csv, with a heading, or frames, the request lines
+that replay reads; the default is csv",
 };
 
-/// After how many touches balances are told.
+/// The number of touches after which balances are printed.
 const AT: Parameter = Parameter {
     name: "at",
     takes: Takes::Text("N"),
     rule: Rule::Optional,
-    help: "Tells what cards held after the first N touches, from 0 to 1000000;
-without it after all",
+    help: "Prints the balances after the first N touches, from 0 to 1000000;
+by default after all",
+};
+
+/// The card of a statement.
+const OF_CARD: Parameter = Parameter {
+    name: "card",
+    takes: Takes::Number("N", CARDS_LIMIT),
+    rule: Rule::Required,
+    help: "The number of the card, from 1 to 100000",
+};
+
+/// The first fare day of a statement.
+const FROM: Parameter = Parameter {
+    name: "from",
+    takes: Takes::Text("DATE"),
+    rule: Rule::Optional,
+    help: "The first fare day that is printed, a date as 2025-01-07; two sums
+replace all days before it",
+};
+
+/// The last fare day of a statement.
+const TO: Parameter = Parameter {
+    name: "to",
+    takes: Takes::Text("DATE"),
+    rule: Rule::Optional,
+    help: "The last fare day that is printed, not before that of --from",
+};
+
+/// The format of a statement.
+const STATEMENT_FORMAT: Parameter = Parameter {
+    name: "format",
+    takes: Takes::Word("FORMAT", STATEMENT_FORMATS),
+    rule: Rule::Optional,
+    help: "The output format: text, csv or json; the default is text",
 };

@@ -7,7 +7,7 @@ use crate::arguments::{
 
 /// What `replay` does.
 const REPLAY_ABOUT: &str =
-    "Answers each request line of standard input by a line on standard output";
+    "Answers each request line of standard input with a line on standard output";
 
 /// How `replay` is called, and how it ends.
 const REPLAY_EXAMPLE: &str = "Example, an issue of card 1:
@@ -16,11 +16,11 @@ const REPLAY_EXAMPLE: &str = "Example, an issue of card 1:
 Example, with a further table to which touches may revise fares:
   bovtrila replay --cards 10 --table fares.toml fares-2026.toml < lines
 
-Statuses: 0 all lines are answered, 1 a fault (standard error has its line),
+Statuses: 0 all lines are answered, 1 a fault (on standard error),
 2 a wrong command line";
 
 /// What `check` does.
-const CHECK_ABOUT: &str = "Says whether a file is a valid fare table, or what is wrong with it";
+const CHECK_ABOUT: &str = "Checks a fare table, and prints what it contains or its first fault";
 
 /// What a check is asked for: of one table, with at most one of two options, or of two.
 const CHECK_USAGE: &str = "bovtrila check --table <FILE> [--strict | --fare <FROM> <TO> <MOMENT>]
@@ -30,14 +30,15 @@ const CHECK_USAGE: &str = "bovtrila check --table <FILE> [--strict | --fare <FRO
 const CHECK_EXAMPLE: &str = "Example:
   bovtrila check --table fares.toml
 
-Example, what a journey from station 1 to station 3 costs that starts at this moment:
+Example, the fare of a journey from station 1 to station 3 that starts at this moment:
   bovtrila check --table fares.toml --fare 1 3 2025-01-07T08:30:00Z
 
-Example, what a new table changes, and whether fares may be revised to it:
+Example, the changes in a new table, and whether fares may be revised to it:
   bovtrila check --against fares.toml fares-2026.toml
 
-Statuses: 0 the table is valid, or with --against may revise the other; 1 it isn't or may not,
-or a fault came, or with --strict a note; 2 a wrong command line";
+Statuses: 0 the table is valid, or with --against fares may be revised to the new one;
+1 it isn't valid, fares may not be revised, there was a fault, or with --strict a note;
+2 a wrong command line";
 
 /// What a journey is, as it is written.
 const JOURNEY_VALUES: [&str; 3] = ["FROM", "TO", "MOMENT"];
@@ -46,7 +47,7 @@ const JOURNEY_VALUES: [&str; 3] = ["FROM", "TO", "MOMENT"];
 const AGAINST_VALUES: [&str; 2] = ["OLD", "NEW"];
 
 /// What `serve` does.
-const SERVE_ABOUT: &str = "Serves gates over TCP, and keeps each touch in a journal";
+const SERVE_ABOUT: &str = "Serves gates over TCP, and stores each touch in a journal";
 
 /// What a server needs and may be given, in two lines: the one that `clap` writes is too long.
 const SERVE_USAGE: &str =
@@ -59,24 +60,24 @@ const SERVE_EXAMPLE: &str =
   bovtrila serve --table fares.toml --journal station.journal --cards 1000 \\
     --capacity 1000000 --listen 127.0.0.1:4014 --lines 8
 
-Each later start has --strict, so that no new journal is made by mistake. The last words are
-further tables; all that the journal names have to stand there:
+Each later start has --strict, so that the server makes no new journal by mistake. The last
+arguments are further tables, and all that the journal names are needed:
   bovtrila serve --table fares.toml --journal station.journal --cards 1000 \\
     --capacity 1000000 --listen 127.0.0.1:4014 --lines 8 --strict fares-2026.toml
 
-Statuses: 0 all lines are done and the journal is closed, 1 a fault or a failed disk (standard
-error has the fault's line), 2 a wrong command line";
+Statuses: 0 all lines have ended and the journal is closed, 1 a fault (on standard error) or a
+failed disk, 2 a wrong command line";
 
 /// What `migrate` does.
-const MIGRATE_ABOUT: &str = "Carries a journal of the first format over to a new file";
+const MIGRATE_ABOUT: &str = "Converts a journal of the first format into a new file";
 
 /// How `migrate` is called, and how it ends.
 const MIGRATE_EXAMPLE: &str = "Example:
   bovtrila migrate --table fares.toml --from station.journal --to new.journal --cards 1000
 
-The old journal is only read, and stays as it is.
+The command only reads the old journal.
 
-Statuses: 0 the new journal is whole, 1 a fault (standard error has its line),
+Statuses: 0 the new journal is whole, 1 a fault (on standard error),
 2 a wrong command line, 141 nobody reads the output";
 
 /// The command `replay`.
@@ -150,7 +151,7 @@ const STRICT_TABLE: Parameter = Parameter {
     name: "strict",
     takes: Takes::Flag,
     rule: Rule::Without(&["fare"]),
-    help: "Ends with status 1 where there is a note on a valid table:
+    help: "Returns status 1 if there is a note on a valid table:
 an unknown or misplaced key, prices that may be pounds,
 or a cap below a single fare that it covers; not with --fare",
 };
@@ -160,9 +161,9 @@ const FARE: Parameter = Parameter {
     name: "fare",
     takes: Takes::Three(&JOURNEY_VALUES),
     rule: Rule::Optional,
-    help: "Writes what a journey between two stations costs that starts
-at a moment in UTC, as 2025-01-07T08:30:00Z, and why,
-in place of the report; not with --strict",
+    help: "Prints the fare of a journey between two stations that starts
+at a moment in UTC, as 2025-01-07T08:30:00Z, and the reason,
+instead of the report; not with --strict",
 };
 
 /// The tables that are compared.
@@ -170,9 +171,9 @@ const AGAINST: Parameter = Parameter {
     name: "against",
     takes: Takes::Pair(&AGAINST_VALUES),
     rule: Rule::Without(&["table", "strict", "fare"]),
-    help: "Writes what the table in the second file changes of that in
-the first, and whether fares may be revised to it;
-in place of --table, and with no other option",
+    help: "Prints the changes from the table in the first file to that in
+the second, and whether fares may be revised to it;
+instead of --table, and with no other option",
 };
 
 /// The file of the fare table by which a replay answers.
@@ -180,7 +181,7 @@ const REPLAY_TABLE: Parameter = Parameter {
     name: "table",
     takes: Takes::Text("FILE"),
     rule: Rule::Optional,
-    help: "The file of the fare table, in TOML; without it the example table is taken",
+    help: "The file of the fare table, in TOML; the default is the example table",
 };
 
 /// How many cards a replay has.
@@ -188,7 +189,7 @@ const REPLAY_CARDS: Parameter = Parameter {
     name: "cards",
     takes: Takes::Number("N", CARDS_LIMIT),
     rule: Rule::Required,
-    help: "How many cards there are, from 1 to 100000",
+    help: "The number of cards, from 1 to 100000",
 };
 
 /// The files of further fare tables.
@@ -196,7 +197,7 @@ const REVISIONS: Parameter = Parameter {
     name: "revisions",
     takes: Takes::Revisions,
     rule: Rule::Optional,
-    help: "Files of further fare tables, for the touches that revise fares to one of them",
+    help: "Files of further fare tables, to which touches may revise fares",
 };
 
 /// The journal of a server.
@@ -204,8 +205,8 @@ const JOURNAL: Parameter = Parameter {
     name: "journal",
     takes: Takes::Text("FILE"),
     rule: Rule::Required,
-    help: "The journal's file; where there is none, or an empty one,
-the server makes the journal, but not with --strict",
+    help: "The journal's file; if it is missing or empty, the server makes
+the journal, except with --strict",
 };
 
 /// Where gates connect.
@@ -221,8 +222,8 @@ const SERVE_CARDS: Parameter = Parameter {
     name: "cards",
     takes: Takes::Number("N", CARDS_LIMIT),
     rule: Rule::Required,
-    help: "How many cards there are, from 1 to 100000;
-a journal is opened with its own number",
+    help: "The number of cards, from 1 to 100000; an existing journal
+must have the same number",
 };
 
 /// How many touches a new journal has room for.
@@ -230,7 +231,7 @@ const CAPACITY: Parameter = Parameter {
     name: "capacity",
     takes: Takes::Number("N", CAPACITY_LIMIT),
     rule: Rule::Required,
-    help: "How many touches a new journal has room for, from 1 to 1000000",
+    help: "The number of touches that a new journal has room for, from 1 to 1000000",
 };
 
 /// How many lines a server has.
@@ -238,7 +239,7 @@ const LINES: Parameter = Parameter {
     name: "lines",
     takes: Takes::Number("N", LINES_LIMIT),
     rule: Rule::Required,
-    help: "How many gates are served at once, from 1 to 64",
+    help: "The number of gates that are served at once, from 1 to 64",
 };
 
 /// How many connections a line of a server gives its gates.
@@ -246,8 +247,8 @@ const CONNECTIONS: Parameter = Parameter {
     name: "connections",
     takes: Takes::Number("N", CONNECTIONS_LIMIT),
     rule: Rule::Optional,
-    help: "How many connections each line serves before it is done,
-from 1 to 1000000; without it no line is ever done",
+    help: "The number of connections that each line serves before it ends,
+from 1 to 1000000; by default a line serves without end",
 };
 
 /// After how many seconds a silent connection is ended.
@@ -255,9 +256,9 @@ const IDLE: Parameter = Parameter {
     name: "idle",
     takes: Takes::Number("SECONDS", IDLE_LIMIT),
     rule: Rule::Optional,
-    help: "Closes the connection of a gate that for so many seconds, from 1
-to 1000000, sends nothing, takes no answer, or leaves a request
-unfinished; without it none is closed",
+    help: "Closes the connection of a gate that sends nothing, reads no answer,
+or leaves a request unfinished for this many seconds, from 1
+to 1000000; by default none is closed",
 };
 
 /// How often it is told how a server stands.
@@ -265,8 +266,8 @@ const REPORT: Parameter = Parameter {
     name: "report",
     takes: Takes::Number("SECONDS", REPORT_LIMIT),
     rule: Rule::Optional,
-    help: "Tells each so many seconds, from 1 to 1000000, how the server
-stands; without it that isn't told",
+    help: "Prints the server's numbers on standard error at this interval in
+seconds, from 1 to 1000000; by default it prints none",
 };
 
 /// What a server does whose journal's disk has failed.
@@ -274,8 +275,8 @@ const STAY_HALTED: Parameter = Parameter {
     name: "stay-halted",
     takes: Takes::Flag,
     rule: Rule::Optional,
-    help: "Goes on where the journal's disk has failed, for enquiries;
-without it the server ends then, to be started again",
+    help: "Continues after a failure of the journal's disk, and answers enquiries;
+without it the server ends, to be started again",
 };
 
 /// What a server refuses of a journal.
@@ -283,10 +284,10 @@ const STRICT_JOURNAL: Parameter = Parameter {
     name: "strict",
     takes: Takes::Flag,
     rule: Rule::Optional,
-    help: "Makes no journal: refuses one that isn't there or is empty,
-that has more than two open slots behind its end, or of which
-that can't be read; without it the server makes a journal,
-and tells of such slots",
+    help: "Makes no journal: refuses one that is missing or empty, that has more
+than two valid slots after its end, or whose slots after the end can't
+be counted; without it the server makes a journal, and prints a note
+on such slots",
 };
 
 /// What a server does whose journal another one has.
@@ -294,8 +295,8 @@ const STANDBY: Parameter = Parameter {
     name: "standby",
     takes: Takes::Flag,
     rule: Rule::Optional,
-    help: "Where another server or run has the journal, waits until that
-has ended, and serves then; without it that is a fault",
+    help: "While another server or run has locked the journal, waits for its
+end, and then serves; without it such a lock is a fault",
 };
 
 /// The fare table by which an old journal was made.
@@ -303,7 +304,7 @@ const MADE_BY: Parameter = Parameter {
     name: "table",
     takes: Takes::Text("FILE"),
     rule: Rule::Required,
-    help: "The file of the fare table by which the journal was made, in TOML",
+    help: "The file of the fare table that the journal was made with, in TOML",
 };
 
 /// The old journal.
@@ -319,8 +320,8 @@ const TO: Parameter = Parameter {
     name: "to",
     takes: Takes::Text("FILE"),
     rule: Rule::Required,
-    help: "The new journal's file, which is made where there is none;
-else it has to be empty",
+    help: "The new journal's file, which the command makes if it is missing;
+otherwise it has to be empty",
 };
 
 /// How many cards an old journal was made with.
@@ -328,5 +329,5 @@ const MADE_WITH: Parameter = Parameter {
     name: "cards",
     takes: Takes::Number("N", CARDS_LIMIT),
     rule: Rule::Required,
-    help: "With how many cards the journal was made, from 1 to 100000",
+    help: "The number of cards that the journal was made with, from 1 to 100000",
 };

@@ -1,0 +1,6 @@
+mod StationLemmas
+mod ReadyLemmas
+mod CardLemmas
+mod JournalLemmas
+mod EntryLemmas
+mod LawLemmas

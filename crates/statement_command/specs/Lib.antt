@@ -1,0 +1,7 @@
+pub mod Days
+pub mod Lines
+pub mod Words
+pub mod Csv
+pub mod Card
+pub mod Journal
+pub mod Laws

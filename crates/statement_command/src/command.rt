@@ -1,0 +1,65 @@
+//! The command `statement`: a card's statement from a journal's file.
+
+use crate::days::Days;
+use crate::journal::write_statement;
+use command_line::Statement;
+use console::WholeFiles;
+use journal_audit::{CommandFault, OpenedBy, Settled, explained, settled_file, tell_many};
+use std::io::Write;
+use std::process::ExitCode;
+use table_check::tables_in;
+
+/// Prints the statement of a card from the journal in a file, by the fare tables that are named.
+///
+/// The tables are read first, and then the journal's file, without a lock: a server may run
+/// meanwhile. The file is read to its end before anything is printed, and read again if it changed
+/// meanwhile and looks damaged. A note on standard error follows if more slots after the journal's
+/// end are valid than crashes leave.
+pub fn tell_statement<R: AllocGlobal + Eprint, F: WholeFiles, W: Write>(
+    rt: &R,
+    files: &F,
+    asked: &Statement<'_>,
+    writer: &mut W,
+) -> Result<ExitCode, CommandFault> {
+    let alloc = rt.alloc();
+    let schedule = tables_in(alloc, files, Some(asked.table), asked.revisions.as_slice())?;
+    let Settled { bytes, behind } = settled_file(rt, files, asked.journal)?;
+    let days = Days {
+        from: asked.from,
+        to: asked.to,
+    };
+    write_statement(
+        alloc,
+        schedule,
+        asked.card,
+        days,
+        asked.format,
+        bytes,
+        writer,
+    )?;
+    tell_many(rt, behind);
+    Ok(ExitCode::SUCCESS)
+}
+
+/// Prints the statement of a card, with the second line of a fault.
+pub fn explained_statement<R: AllocGlobal + Eprint, F: WholeFiles, W: Write>(
+    rt: &R,
+    files: &F,
+    asked: &Statement<'_>,
+    output: &mut W,
+) -> Result<ExitCode, CommandFault> {
+    match tell_statement(rt, files, asked, output) {
+        Ok(status) => Ok(status),
+        Err(fault) => Err(explained(rt.alloc(), files, opened_by(asked), fault)),
+    }
+}
+
+/// The arguments by which the journal was opened.
+fn opened_by<'a>(asked: &'a Statement<'a>) -> OpenedBy<'a> {
+    OpenedBy {
+        table: Some(asked.table),
+        revisions: asked.revisions.as_slice(),
+        journal: asked.journal,
+        cards: None,
+    }
+}
