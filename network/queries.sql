@@ -1,7 +1,8 @@
 -- SPDX-License-Identifier: Apache-2.0
--- The queries of network/query, in SQL that PostgreSQL and SQLite share; what a comment that begins with sqlite has is for
--- SQLite alone, and what is between the marks pg and end for PostgreSQL. Each has a name, what it says, the indexes of
--- network/schema.sql that it goes by, and its parameters as :card, :first and :last (fare days) and :day_before (a moment).
+-- The queries of bovtrila-network-query, in SQL that PostgreSQL and SQLite share; what a comment that begins with sqlite has
+-- is for SQLite alone, and what is between the marks pg and end for PostgreSQL. Each has a name, what it says, the indexes
+-- of network/schema.sql that it goes by, and its parameters as :card, :first and :last (fare days) and :day_before (a
+-- moment).
 
 -- name: held
 -- What a card of the network holds, on each server whose accounts have it. The balance is transferred and paid_in less
@@ -44,7 +45,7 @@ GROUP BY station, server, gate, verdict
 ORDER BY station, server, gate, verdict;
 
 -- name: maxima
--- The journeys that cost a maximum, by the touch that tells it (docs/AUDIT.md, "The report of a day"): what the touch in
+-- The journeys that cost a maximum, by the touch that tells it (docs/audit/AUDIT.md, "The report of a day"): what the touch in
 -- was charged, and what the touch out.
 -- indexes: touches_maxima touches_card
 SELECT station, server, place, card, verdict, moment,
@@ -111,7 +112,7 @@ ORDER BY station, servers.name, gate;
 
 -- name: freshness
 -- Each server with the moment of its last touch that was loaded, the moment of that load, and whether a touch of these fare
--- days was loaded. network/query ends with status 3 if one has no touches.
+-- days was loaded. bovtrila-network-query ends with status 3 if one has no touches.
 -- indexes: touches_day
 SELECT station, server, journal, last_touch, loaded,
        CASE WHEN EXISTS (SELECT 1 FROM touches WHERE day BETWEEN :first AND :last AND act <> 'revision' AND journal /*sqlite + 0 */ IN (

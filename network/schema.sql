@@ -1,10 +1,10 @@
 -- SPDX-License-Identifier: Apache-2.0
--- The touches of a network's servers with their replies, as their journals have them (docs/NETWORK.md). The journals
+-- The touches of a network's servers with their replies, as their journals have them (docs/operate/NETWORK.md). The journals
 -- stay the truth: whatever stands here can be dropped and loaded again.
 --
--- This is PostgreSQL's text (psql -f network/schema.sql -f network/views.sql). network/load gives SQLite the same one,
--- without the parts between the marks pg and end, and with the contents of the comments that begin with sqlite. A change
--- here needs a migration in network/migrations, and the next version.
+-- This is PostgreSQL's text (psql -f network/schema.sql -f network/views.sql). bovtrila-network-load gives SQLite the same
+-- one, without the parts between the marks pg and end, and with the contents of the comments that begin with sqlite. A
+-- change here needs a migration in network/migrations, and the next version.
 
 /*pg*/
 -- All of it is in a schema of its own, beside whatever else the database has.
@@ -17,7 +17,7 @@ END $$;
 SET search_path = bovtrila, public;
 
 CREATE TYPE act AS ENUM ('in', 'out', 'top-up', 'issue', 'revision');
--- The verdicts of docs/FARES.md, in the order of their codes.
+-- The verdicts of docs/reference/FARES.md, in the order of their codes.
 CREATE TYPE verdict AS ENUM (
     'Entered', 'EnteredContinued', 'EnteredOverOpen', 'Exited', 'ExitedUnstarted', 'ExitedLate', 'ToppedUp', 'Issued',
     'Revised', 'UnknownCard', 'AlreadyIssued', 'UnknownStation', 'Backwards', 'LowBalance', 'BadAmount', 'OverLimit',
@@ -58,10 +58,10 @@ CREATE TABLE fare_stations (
 );
 
 -- digest is that of the first fare table, touches how many were loaded, and seal the digest of their bytes and the
--- header's (docs/AUDIT.md, "A seal"). A closed journal is one that another follows: its balances were transferred there,
--- by top-ups of the gate transfer_gate of the new journal. The first `checked` touches were checked by network/check, and
--- `base` is the place that a check of everything begins with, above 0 after network/detach. last_table is the fare table of the
--- last accepted revision, or the first one.
+-- header's (docs/audit/AUDIT.md, "A seal"). A closed journal is one that another follows: its balances were transferred there,
+-- by top-ups of the gate transfer_gate of the new journal. The first `checked` touches were checked by
+-- bovtrila-network-check, and `base` is the place that a check of everything begins with, above 0 after
+-- bovtrila-network-detach. last_table is the fare table of the last accepted revision, or the first one.
 CREATE TABLE journals (
     journal integer /*pg*/ GENERATED ALWAYS AS IDENTITY /*end*/ PRIMARY KEY,
     server text NOT NULL REFERENCES servers,
@@ -133,7 +133,8 @@ CREATE TABLE touches (
     /*sqlite , PRIMARY KEY (journal, place), UNIQUE (journal, gate, number) */
 ) /*pg*/ PARTITION BY RANGE (day) /*end*/;
 
--- For the queries journeys, refusals, clocks, inside and freshness, and for network/report: the touches of some fare days.
+-- For the queries journeys, refusals, clocks, inside and freshness, and for bovtrila-network-report: the touches of some
+-- fare days.
 CREATE INDEX touches_day ON touches (day, journal);
 -- For the query maxima: the touches of a card in their order.
 CREATE INDEX touches_card ON touches (journal, card, place);
@@ -177,12 +178,12 @@ CREATE TABLE gates (
     PRIMARY KEY (journal, stage, gate)
 );
 
--- The months whose partitions network/detach has detached, each by its first day.
+-- The months whose partitions bovtrila-network-detach has detached, each by its first day.
 CREATE TABLE detached_months (
     month /*pg*/ date /*end*/ /*sqlite text */ PRIMARY KEY
 );
 
--- What each touch in or out of a card was charged for (docs/NETWORK.md, "Journeys"). Each is of one row: a journey; a touch in
+-- What each touch in or out of a card was charged for (docs/operate/NETWORK.md, "Journeys"). Each is of one row: a journey; a touch in
 -- that was unfinished, because another touch in followed; a touch in with a touch out that was late; or a touch out that was
 -- unstarted. place is that of the row's first touch, and day that touch's fare day. settled is the place of the touch since
 -- which no touch can change the row. charged is less what was given back.

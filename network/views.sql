@@ -11,9 +11,9 @@ DROP VIEW IF EXISTS history;
 /*pg*/
 -- Makes the partitions of the month of a day, where there are none. Each has keys of its own: a place, and a gate's number,
 -- stand once in it. A key over all partitions would have to name the day as well, and so promise neither; the view
--- network/check finds what stands once in each of two months. Rows of the month that are in touches_other and journeys_other
--- move there. Attaching locks these two, so a load commits the new months before it does anything else. The function has the
--- rights of its owner: whoever loads needn't own the tables (network/roles.sql).
+-- bovtrila-network-check finds what stands once in each of two months. Rows of the month that are in touches_other and
+-- journeys_other move there. Attaching locks these two, so a load commits the new months before it does anything else. The
+-- function has the rights of its owner: whoever loads needn't own the tables (network/roles.sql).
 CREATE OR REPLACE FUNCTION make_month(a_day date) RETURNS void LANGUAGE plpgsql SECURITY DEFINER
     SET search_path = bovtrila, pg_temp AS $$
 DECLARE
@@ -87,7 +87,7 @@ FROM (SELECT old.server, old.name, new.name AS following,
                                              WHERE next.server = old.server AND next.journal > old.journal)
       WHERE old.closed) AS pairs;
 
--- Each row of journeys and last_journeys with its server, and the card's number in the network (docs/NETWORK.md, "Journeys").
+-- Each row of journeys and last_journeys with its server, and the card's number in the network (docs/operate/NETWORK.md, "Journeys").
 -- fare_stations has the stations by last_table and number.
 CREATE VIEW travel AS
 SELECT servers.station, servers.name AS server, travelled.journal, last_table, place, kind, first_card + card - 1 AS card,
