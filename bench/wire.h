@@ -1,4 +1,4 @@
-/* What the programs of this folder share: the frames' sizes (docs/PROTOCOL.md), and how they end on a fault. */
+/* What the programs of this folder share: the frames' sizes (docs/reference/PROTOCOL.md), and how they end on a fault. */
 #ifndef WIRE_H
 #define WIRE_H
 

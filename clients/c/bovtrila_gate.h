@@ -4,8 +4,8 @@
    A gate tells the station's account server what happened to a card: a touch in, a touch out, a top-up, an issue. The
    server judges it, and answers with a verdict and the card's balance. An answer may be lost: by the network, by a
    server that ends, or by the gate's own loss of power. Then the same touch has to be sent again, as the same bytes and
-   under the same number, and never as another touch. This library does that. docs/GATE_LIBRARY.md of the repository
-   says more, and docs/PROTOCOL.md has the bytes.
+   under the same number, and never as another touch. This library does that. docs/reference/GATE_LIBRARY.md of the repository
+   says more, and docs/reference/PROTOCOL.md has the bytes.
 
    How a gate uses it:
 
@@ -106,7 +106,7 @@ enum bovtrila_fault {
     /* generated: faults */
     BOVTRILA_FAULT_BAD_FRAME = 1,     /* what came is no request: something on the way, or this library, is broken */
     BOVTRILA_FAULT_CONFLICT = 2,      /* another touch has this gate and number: the gate number isn't this gate's own.
-                                         No repeat changes it (docs/PROTOCOL.md, "A way out of Conflict") */
+                                         No repeat changes it (docs/reference/PROTOCOL.md, "A way out of Conflict") */
     BOVTRILA_FAULT_HALTED = 3,        /* the server's disk failed. It may have recorded the touch; a server that is
                                          started again, or another address, will tell: call bovtrila_resend later */
     BOVTRILA_FAULT_MEMORY = 4,        /* nothing was recorded: call bovtrila_resend */
@@ -120,7 +120,7 @@ enum bovtrila_fault {
 typedef struct bovtrila_answer {
     enum bovtrila_result result;
     uint32_t number;              /* the number of the touch, 0 where it wasn't kept */
-    uint8_t verdict;              /* of the three replies (docs/PROTOCOL.md, "Verdicts"), else 0 */
+    uint8_t verdict;              /* of the three replies (docs/reference/PROTOCOL.md, "Verdicts"), else 0 */
     uint8_t fault;                /* of BOVTRILA_FAULT, else 0 */
     int32_t change;               /* the card's new balance less the old one, in pence */
     int64_t balance;              /* the card's balance after the touch, in pence; it may be below 0 */
@@ -190,7 +190,7 @@ enum bovtrila_file_cause {
     BOVTRILA_FILE_DAMAGED = 13,       /* slot `place` (from 0) is cut short, or holds no touch */
     BOVTRILA_FILE_FOREIGN = 14,       /* the touch in slot `place` isn't this gate's of the number `place` + 1 */
     BOVTRILA_FILE_OLD_TAG = 15,       /* this gate's file, made by a version of this library before 1.1. It is looked for
-                                         before BOVTRILA_FILE_ANOTHER. docs/GATE_LIBRARY.md, "To change an old file
+                                         before BOVTRILA_FILE_ANOTHER. docs/reference/GATE_LIBRARY.md, "To change an old file
                                          over", has the commands that make it a file of today with the same touches */
     BOVTRILA_FILE_PERMISSION = 16,    /* this program may not open the file, not read and write it, or not make it in
                                          its folder */
@@ -295,13 +295,14 @@ int bovtrila_clear_cancel(bovtrila_gate *gate);
 
    The mark is in a file of its own, the path of the gate's file with `.done` behind it, and is written without waiting
    for the disk. A loss of power may take it: then the next opening returns the reply again, which does no harm to a
-   caller that keeps the barrier closed on BOVTRILA_ACCEPTED_EARLIER. 1, or 0 where the mark can't be written, by
+   caller that keeps the barrier closed on BOVTRILA_ACCEPTED_EARLIER. Before the server gets a new journal the mark has to
+   be synced (docs/reference/PROTOCOL.md, "A new journal"). 1, or 0 where the mark can't be written, by
    bovtrila_last_error, or where nothing was settled since the gate was opened. */
 int bovtrila_done(bovtrila_gate *gate);
 
 /* The five calls below are for a gate with lines of its own, as through TLS or in a loop of events. They connect to
    nothing, and wait for nothing but the disk. The rules are the same: the caller sends the frame that waits, over
-   another connection after each but a whole answer, and waits between repeats (docs/PROTOCOL.md, "When to repeat, and
+   another connection after each but a whole answer, and waits between repeats (docs/reference/PROTOCOL.md, "When to repeat, and
    how often").
 
    bovtrila_ask keeps a touch, whose `number` isn't looked at: BOVTRILA_KEPT with its number, once it is synced, or

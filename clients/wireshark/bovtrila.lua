@@ -1,5 +1,5 @@
 -- SPDX-License-Identifier: Apache-2.0
--- Shows what passes between gates and an account server of Bovtrila (docs/PROTOCOL.md): each field by its name,
+-- Shows what passes between gates and an account server of Bovtrila (docs/reference/PROTOCOL.md): each field by its name,
 -- verdicts and faults in words, answers tied to their requests, repeats marked. clients/wireshark/README.md says how to
 -- install it.
 

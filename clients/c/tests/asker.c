@@ -1,6 +1,6 @@
 /* SPDX-License-Identifier: Apache-2.0 */
-/* A gate that is told on standard input what to ask, for scripts/tests/gate-library. It knows the library by its header
-   alone.
+/* A gate that is told on standard input what to ask, for scripts/tests/test_gate_library.py. It knows the library
+   by its header alone.
 
        asker create FILE GATE CAPACITY
        asker open FILE GATE ADDRESS,.. LIMIT PATIENCE BACKOFF_FIRST BACKOFF_MOST

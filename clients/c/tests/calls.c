@@ -1,6 +1,6 @@
 /* SPDX-License-Identifier: Apache-2.0 */
-/* Stands before the C library (LD_PRELOAD), for scripts/tests/gate-library: it notes the calls of the system that the library
-   for gates makes, refuses one, makes them fall short, or cuts the power in the middle of a write.
+/* Stands before the C library (LD_PRELOAD), for scripts/tests/test_gate_library.py: it notes the calls of the system
+   that the library for gates makes, refuses one, makes them fall short, or cuts the power in the middle of a write.
 
    CALLS_LOG=FD          a line for each call goes there
    CALLS_REFUSE=N        call N (from 1) isn't made, and answers an error; with CALLS_ONWARD=1 so does each later one of

@@ -1,6 +1,6 @@
 /* SPDX-License-Identifier: Apache-2.0 */
-/* What the library makes of frames, for scripts/tests/gate-library: its own functions, since a gate numbers its touches
-   itself.
+/* What the library makes of frames, for scripts/tests/test_gate_library.py: its own functions, since a gate numbers
+   its touches itself.
 
    "frame GATE KIND NUMBER CARD STATION PENCE MOMENT DAY DIGEST" prints the touch's frame, and what is read from it
    again.

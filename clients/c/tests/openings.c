@@ -1,5 +1,5 @@
 /* SPDX-License-Identifier: Apache-2.0 */
-/* Opens a gate's file with each of its bytes changed to each other value, for scripts/tests/gate-library.
+/* Opens a gate's file with each of its bytes changed to each other value, for scripts/tests/test_gate_library.py.
 
        openings FILE GATE COPY
 
