@@ -1,9 +1,7 @@
-"""For scripts/tests/gate-library: the built programs of clients/c, a gate that asks on request, and readers of a
-gate's file and of its calls, written from docs/GATE_LIBRARY.md and docs/JOURNAL.md."""
+"""For scripts/tests/test_gate_library.py: the built programs of clients/c, a gate that asks on request, and readers of a
+gate's file and of its calls, written from docs/reference/GATE_LIBRARY.md and docs/reference/JOURNAL.md."""
 import contextlib
 import functools
-import importlib.machinery
-import importlib.util
 import os
 import pathlib
 import re
@@ -13,14 +11,13 @@ import struct
 import subprocess
 import tempfile
 import time
-import types
 import unittest
 from collections.abc import Callable, Iterable, Iterator, Sequence
 from typing import Any, Protocol, TypeAlias, TypeVar
 
 import harness
-import model
-import wire
+import test_gate_makers as makers
+from bovtrila import codec, layout, model, vector_file, wire
 from harness import EXAMPLE, PROGRAM, TIME, TOP
 from listening import Door
 from planted import Planted
@@ -48,17 +45,6 @@ def there(*names: str) -> bool:
     return all(shutil.which(name) for name in names)
 
 
-def loaded(name: str) -> types.ModuleType:
-    """The module of a script."""
-    loader = importlib.machinery.SourceFileLoader(name.replace("-", "_"), str(TOP / "scripts" / "tests" / name))
-    spec = importlib.util.spec_from_loader(loader.name, loader)
-    assert spec is not None, "a loader of a file makes one"
-    module = importlib.util.module_from_spec(spec)
-    loader.exec_module(module)
-    return module
-
-
-makers = loaded("gate-makers")
 FIRST = [bytes.fromhex(asked) for asked, _ in harness.vectors()["first example"]]
 # Where programs are built for all tests.
 BUILT = tempfile.TemporaryDirectory(prefix="gate-library-")
@@ -168,22 +154,22 @@ def create(program: Word, file: pathlib.Path, gate: int, capacity: int, **option
 
 def act_of(frame: bytes) -> str:
     """The line that asks for the touch of a frame, or for an enquiry."""
-    kind, *values = struct.unpack(model.FORMS[frame[2]], frame[2:])
-    if kind == model.ENQUIRE:
+    kind, *values = struct.unpack(codec.FORMS[frame[2]], frame[2:])
+    if kind == codec.ENQUIRE:
         return f"enquire {values[0]}"
     card, *more = values[2:]
-    if kind == model.REVISE:
+    if kind == codec.REVISE:
         return f"revise {more[0].hex()} {more[1]} {more[2]}"
-    word = {model.ENTER: "in", model.LEAVE: "out", model.TOP_UP: "top-up", model.ISSUE: "issue"}[kind]
+    word = {codec.ENTER: "in", codec.LEAVE: "out", codec.TOP_UP: "top-up", codec.ISSUE: "issue"}[kind]
     return " ".join(map(str, (word, card, *more)))
 
 
 def told_by(answer: bytes, number: int) -> Line:
     """What the gate says of an answer's frame to its touch of this number, or to an enquiry."""
-    if answer[2] == model.HOLDING:
+    if answer[2] == codec.HOLDING:
         state, balance, front = struct.unpack(">BqI", answer[3:])
         return [RESULT["SHOWN"], state, 0, balance, front]
-    if answer[2] == model.FAULT:
+    if answer[2] == codec.FAULT:
         return [RESULT["FAULT"], number, 0, answer[3], 0, 0]
     verdict, change, balance = struct.unpack(">Biq", answer[9:])
     return [REPLIES[verdict >= 20], number, verdict, 0, change, balance]
@@ -196,7 +182,7 @@ def earlier(told: Line) -> Line:
 
 def worked_out(frames: Iterable[bytes]) -> list[Line]:
     """What a gate is told of these touches, the first ones of the example's server, by the model."""
-    station = wire.vectors()[0].model()
+    station = vector_file.read()[0].model()
     return [told_by(station.answer(frame), number) for number, frame in enumerate(frames, 1)]
 
 
@@ -214,7 +200,7 @@ class Careful:
         reply = [REPLIES[replies.index(told[0])], *told[1:]]
         first = self.replies.setdefault(told[1], reply)
         assert first == reply, f"touch {told[1]} was answered by {first}, and then by {told}"
-        is_travel = self.frames[told[1] - 1][2] in (model.ENTER, model.LEAVE)
+        is_travel = self.frames[told[1] - 1][2] in (codec.ENTER, codec.LEAVE)
         if first is reply and is_travel and told[0] == RESULT["ACCEPTED"]:
             self.opens.append(told[1])
 
@@ -251,23 +237,23 @@ class Careful:
 
 
 def tag(gate: int, text: bytes = b"touches of one gate, by number") -> bytes:
-    """What stands in a gate's file where a station's journal has a digest (docs/JOURNAL.md, "A gate's file")."""
+    """What stands in a gate's file where a station's journal has a digest (docs/reference/JOURNAL.md, "A gate's file")."""
     return text + struct.pack(">H", gate)
 
 
 def old_tag(gate: int) -> bytes:
-    """What stood there before version 1.1 of the library (docs/GATE_LIBRARY.md)."""
+    """What stood there before version 1.1 of the library (docs/reference/GATE_LIBRARY.md)."""
     return tag(gate, b"Bovtrila: the touches of gate ")
 
 
 def file_of(frames: Sequence[bytes], capacity: int, gate: int) -> bytes:
     """The bytes of a gate's file with the touches of these frames."""
-    content = model.journal_of(frames, capacity, 1, tag(gate))
+    content = layout.journal_of(frames, capacity, 1, tag(gate))
     return content if len(frames) < capacity else content[:-1]
 
 
 def reading(content: bytes, gate: int) -> Opening:
-    """What opening a file comes to: the cause, the place, and the touches' frames (docs/GATE_LIBRARY.md)."""
+    """What opening a file comes to: the cause, the place, and the touches' frames (docs/reference/GATE_LIBRARY.md)."""
     if len(content) < 65 or content[0] != 0xA5 or content[1:8] != b"OYSTERJ":
         return CAUSE["NOT_A_JOURNAL"], 0, []
     if content[8:9] != b"2":
@@ -286,7 +272,7 @@ def reading(content: bytes, gate: int) -> Opening:
             break
         if len(slot) < 64 or slot[1] not in (1, 2, 3, 4, 6):
             return CAUSE["DAMAGED"], len(touches), []
-        size = struct.calcsize(model.FORMS[slot[1]])
+        size = struct.calcsize(codec.FORMS[slot[1]])
         touches.append(struct.pack(">H", size) + slot[1:1 + size])
     for place, frame in enumerate(touches):
         if frame[3:9] != struct.pack(">HI", gate, place + 1):
@@ -367,7 +353,7 @@ class GateTest(unittest.TestCase):
     def serve(self, cards: int = 10, capacity: int = 1000, lines: int = 4, name: str = "journal") -> Any:
         """A real server."""
         if not PROGRAM.is_file():
-            raise FileNotFoundError(f"{PROGRAM} isn't there: run scripts/bovtrila, or 'rt ci'")
+            raise FileNotFoundError(f"{PROGRAM} isn't there: run bin/bovtrila, or 'rt ci'")
         return self.start(PROGRAM, "serve", "--table", EXAMPLE, "--journal", self.folder / name, "--cards",
                           cards, "--capacity", capacity, "--listen", "127.0.0.1:0", "--lines", lines, "--connections",
                           1_000_000)
@@ -399,7 +385,7 @@ class GateTest(unittest.TestCase):
 
 def replied_to(frame: bytes) -> bytes:
     """A reply to a touch."""
-    return model.framed(">BHIBiq", model.REPLY, *struct.unpack(">HI", frame[3:9]), 8, 0, 0)
+    return codec.framed(">BHIBiq", codec.REPLY, *struct.unpack(">HI", frame[3:9]), 8, 0, 0)
 
 
 class Told:

@@ -1,4 +1,5 @@
-"""The tests of clients/wireshark/bovtrila.lua, for scripts/tests/gate-library: tshark on a capture that is made here."""
+"""The tests of clients/wireshark/bovtrila.lua, for scripts/tests/test_gate_library.py: tshark on a capture that is made
+here."""
 import os
 import pathlib
 import re
@@ -14,12 +15,11 @@ from collections.abc import Callable
 from typing import Any, TypeAlias
 
 import clients
-import model
-import wire
+from bovtrila import codec, vector_file, wire
 from harness import TIME, TOP
 
 SCRIPT = TOP / "clients" / "wireshark" / "bovtrila.lua"
-PAGE = TOP / "docs" / "PROTOCOL.md"
+PAGE = TOP / "docs" / "reference" / "PROTOCOL.md"
 # The fields of each kind behind its length, in the order of the page's table, with the bytes of each.
 FORMS = {
     0x01: "gate number card station moment", 0x02: "gate number card station moment",
@@ -51,7 +51,7 @@ def shown(name: str, value: Any) -> str:
 def fields_of(frame: bytes) -> list[tuple[str, str]]:
     """The fields that a frame has to be shown with."""
     kind = frame[2]
-    values = struct.unpack(ANSWERS.get(kind) or model.FORMS[kind].replace("B", "", 1), frame[3:])
+    values = struct.unpack(ANSWERS.get(kind) or codec.FORMS[kind].replace("B", "", 1), frame[3:])
     found = [("length", str(len(frame) - 2)), ("kind", f"0x{kind:02x}")]
     return found + [(name, shown(name, value)) for name, value in zip(FORMS[kind].split(), values, strict=True)]
 
@@ -84,7 +84,7 @@ class Line:
 class Dissector(unittest.TestCase):
     """What is shown of every vector, sent whole, many at once, and in pieces of a byte."""
 
-    vectors = [(vector.request, vector.answer) for station in wire.vectors() for vector in station.vectors]
+    vectors = [(vector.request, vector.answer) for station in vector_file.read() for vector in station.vectors]
     first = vectors[:4]
     file: pathlib.Path
     port: int
@@ -129,7 +129,7 @@ class Dissector(unittest.TestCase):
         for request, answer in cls.vectors:
             line.move(line.gate, line.server, request)
             line.move(line.server, line.gate, answer)
-            if wire.is_fault(answer, model.BAD_FRAME):
+            if wire.is_fault(answer, codec.BAD_FRAME):
                 line.end()
                 line = Line(listening)
         line.end()

@@ -1,5 +1,5 @@
 """The tests of clients/wireshark/bovtrila.lua on what passes below TLS and to several servers, for
-scripts/tests/gate-library."""
+scripts/tests/test_gate_library.py."""
 import concurrent.futures
 import os
 import pathlib
@@ -15,7 +15,7 @@ import xml.etree.ElementTree as ElementTree
 from collections.abc import Iterable, Sequence
 
 import clients
-import wire
+from bovtrila import vector_file
 from dissecting import Line, SCRIPT, fields_of
 from harness import TIME, TOP
 
@@ -57,7 +57,7 @@ class SecuredLine(Line):
 class Apart(unittest.TestCase):
     """One capture of two plain servers that get the same touches, and of sessions below TLS."""
 
-    first = [(vector.request, vector.answer) for vector in wire.vectors()[0].vectors[:4]]
+    first = [(vector.request, vector.answer) for vector in vector_file.read()[0].vectors[:4]]
     other = first[0][0][:-1] + b"\0"
     folder: pathlib.Path
     file: pathlib.Path

@@ -1,10 +1,12 @@
-"""A real stunnel in front of a server, the authority that lets gates in, and a relay that counts what comes through:
-for the scripts that connect through TLS.
+"""A real stunnel or HAProxy in front of a server, the authority that lets gates in, and a relay that counts what comes
+through: for the scripts that connect through TLS.
 """
+import os
+import pathlib
 import re
+import shutil
 import signal
 import socket
-import pathlib
 import subprocess
 import threading
 import time
@@ -12,21 +14,44 @@ from collections.abc import Iterable
 from typing import TypeAlias
 
 from harness import TIME, TOP, free_port
+from bovtrila.commands.authority import CONFIG
 from listening import Door
 
 # An argument of a script, and what is in the place of a text of a configuration.
 Word: TypeAlias = str | int | pathlib.Path
 Change: TypeAlias = tuple[str, Word]
 
-AUTHORITY, STUNNEL = TOP / "scripts" / "authority", TOP / "packaging" / "stunnel"
+AUTHORITY, STUNNEL = TOP / "bin" / "bovtrila-authority", TOP / "packaging" / "stunnel"
+HAPROXY = TOP / "packaging" / "haproxy"
 
 
 def authority(*words: Word) -> tuple[int, str, str]:
-    """Runs scripts/authority: status, standard output and standard error."""
+    """Runs bovtrila-authority: status, standard output and standard error."""
     done = subprocess.run([str(word) for word in (AUTHORITY, *words)], capture_output=True, text=True, timeout=TIME)
     if "Traceback" in done.stderr:
         raise AssertionError(done.stderr)
     return done.returncode, done.stdout, done.stderr
+
+
+def signed(tls: pathlib.Path, name: str, kind: str, *dates: str) -> None:
+    """A certificate of the authority that is made by openssl itself, in the folder of the gates, of a kind and with a first
+    and a last moment that bovtrila-authority doesn't make."""
+    config, asked, path = tls / "config", tls / "asked", tls / "gates" / f"{name}.pem"
+    config.write_text(CONFIG.format(folder=tls, names="IP:127.0.0.1"))
+    openssl("genpkey", "-algorithm", "EC", "-pkeyopt", "ec_paramgen_curve:P-256", "-out", path.with_suffix(".key"))
+    openssl("req", "-new", "-config", config, "-key", path.with_suffix(".key"), "-subj", f"/CN={name}", "-out", asked)
+    openssl("ca", "-batch", "-notext", "-config", config, "-extensions", kind, *dates, "-in", asked, "-out", path)
+
+
+def signed_by_itself(tls: pathlib.Path, name: str, title: str) -> None:
+    """A certificate that no authority has signed, in the folder of the gates, for a gate of this title."""
+    path = tls / "gates" / f"{name}.pem"
+    openssl("req", "-x509", "-new", "-newkey", "ec", "-pkeyopt", "ec_paramgen_curve:P-256", "-nodes", "-days", "30",
+            "-subj", f"/CN={title}", "-keyout", path.with_suffix(".key"), "-out", path)
+
+
+def openssl(*words: Word) -> None:
+    subprocess.run(["openssl", *map(str, words)], check=True, capture_output=True)
 
 
 class Relay:
@@ -92,4 +117,53 @@ class Stunnel:
 
     def end(self) -> None:
         self.process.kill()
+        self.process.wait(TIME)
+
+
+class Haproxy:
+    """A running HAProxy by packaging/haproxy/bovtrila.cfg, with other values in its first lines."""
+
+    def __init__(self, folder: pathlib.Path, tls: pathlib.Path, server: int, **values: Word) -> None:
+        self.port, self.run = free_port(), folder / f"haproxy-{free_port()}"
+        self.run.mkdir()
+        self.config, self.log = self.run / "haproxy.cfg", self.run / "log"
+        # As docs/operate/OPERATING.md installs it.
+        shutil.copy(tls / "server.key", tls / "server.pem.key")
+        text = (HAPROXY / "bovtrila.cfg").read_text()
+        for name, value in {"LISTEN": f"127.0.0.1:{self.port}", "SERVER": f"127.0.0.1:{server}", "TLS": tls,
+                            "SHARE": HAPROXY, "RUN": self.run, **values}.items():
+            text, count = re.subn(rf"^(    setenv {name}) .*$", rf"\1 {value}", text, flags=re.M)
+            if count != 1:
+                raise AssertionError(f"bovtrila.cfg has {count} lines of {name}")
+        self.config.write_text(text)
+        with open(self.log, "wb") as log:
+            self.process = subprocess.Popen(["haproxy", "-W", "-f", self.config], stdin=subprocess.DEVNULL, stdout=log,
+                                            stderr=log, start_new_session=True)
+        self.loaded(1)
+
+    def loaded(self, count: int) -> None:
+        """Waits until so many processes have loaded the configuration."""
+        limit = time.monotonic() + TIME
+        while self.log.read_text().count("Loading success") < count:
+            if self.process.poll() is not None or time.monotonic() > limit:
+                raise AssertionError(self.log.read_text())
+            time.sleep(0.02)
+
+    def reload(self) -> None:
+        count = self.log.read_text().count("Loading success")
+        self.process.send_signal(signal.SIGUSR2)
+        self.loaded(count + 1)
+
+    def shown(self, command: str) -> str:
+        """What the socket for the status answers."""
+        done = subprocess.run(["socat", "-", self.run / "status"], input=f"{command}\n", capture_output=True, text=True,
+                              check=True, timeout=TIME)
+        return done.stdout
+
+    def end(self) -> None:
+        """Ends its processes, those from before a reload as well."""
+        try:
+            os.killpg(self.process.pid, signal.SIGKILL)
+        except ProcessLookupError:
+            pass
         self.process.wait(TIME)

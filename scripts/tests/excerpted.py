@@ -1,5 +1,5 @@
-"""The tables of docs/PERFORMANCE.md that scripts/dev/excerpts.py names: each has rows and columns of
-docs/MEASUREMENTS.md."""
+"""The tables of docs/operate/PERFORMANCE.md that scripts/dev/excerpts.py names: each has rows and columns of
+docs/develop/MEASUREMENTS.md."""
 import contextlib
 import io
 import unittest
@@ -7,6 +7,8 @@ import unittest
 import excerpts
 import measuring
 from harness import TOP
+
+USERS, DEVELOPERS = TOP / "docs" / "operate" / "PERFORMANCE.md", TOP / "docs" / "develop" / "MEASUREMENTS.md"
 
 MEASURED = """<!-- measured: tls -->
 
@@ -23,12 +25,12 @@ class Excerpts(unittest.TestCase):
         return list(excerpts.taken(excerpts.Rows("tls", columns, keys, label), measuring.tables(MEASURED)))
 
     def test_the_tables_for_users_are_those_of_the_measurements(self) -> None:
-        page, measured = ((TOP / "docs" / name).read_text() for name in ("PERFORMANCE.md", "MEASUREMENTS.md"))
+        page, measured = USERS.read_text(), DEVELOPERS.read_text()
         shown = {name: lines for name, lines in measuring.tables(page).items() if name in excerpts.EXCERPTS}
         self.assertEqual(excerpts.excerpts(measured), shown, "run scripts/dev/measure-all --excerpts")
 
     def test_no_table_is_on_both_pages(self) -> None:
-        page, measured = ((TOP / "docs" / name).read_text() for name in ("PERFORMANCE.md", "MEASUREMENTS.md"))
+        page, measured = USERS.read_text(), DEVELOPERS.read_text()
         self.assertEqual(measuring.tables(page).keys() & measuring.tables(measured).keys(), set())
 
     def test_rows_by_their_first_cells_and_columns_by_their_heads(self) -> None:

@@ -1,4 +1,4 @@
-"""A station with a full journal, for tests of scripts/next-journal."""
+"""A station with a full journal, for tests of bovtrila-next-journal."""
 import os
 import pathlib
 import pwd
@@ -10,22 +10,20 @@ from collections.abc import Iterable, Mapping, Sequence
 from typing import Any, TypeAlias
 
 import harness
-import model
-import serving
-import wire
-from harness import EXAMPLE, PROGRAM, REVISED, TIME, TOP
+from bovtrila import codec, layout, model, serving, wire
+from harness import BIN, EXAMPLE, PROGRAM, REVISED, TIME, TOP
 
 # An argument of the script.
 Word: TypeAlias = str | pathlib.Path
 
-SCRIPT = TOP / "scripts" / "next-journal"
+SCRIPT = TOP / "bin" / "bovtrila-next-journal"
 FIRST, PRICES = model.Table(EXAMPLE.read_text()), model.Table(REVISED.read_text())
 # How many seconds a run of the script may take, which starts the program a dozen times.
 RUN = 10 * TIME
 # Monday 2025-01-06 at 08:00 UTC, and 2099-01-05, a day to come.
 MORNING, FAR = 1736150400, 47_121
-# What each card holds, worked out by docs/FARES.md: card 1 as in the first example; card 2 paid 200 and touched out
-# without a touch in, for 900; card 3 was topped up while it was inside; card 4 is inside, after the entry charge of 900
+# What each card holds, worked out by docs/reference/FARES.md: card 1 as in the first example; card 2 paid 200 and touched
+# out without a touch in, for 900; card 3 was topped up while it was inside; card 4 is inside, after the entry charge of 900
 # of 2000.
 HELD = {1: 1650, 2: -700, 3: 9550, 4: 1100, 5: 0}
 CARRIED = {1: 1650, 2: 0, 3: 9000, 4: 1100, 5: 0}
@@ -33,17 +31,17 @@ CARRIED = {1: 1650, 2: 0, 3: 9000, 4: 1100, 5: 0}
 
 def touches() -> list[bytes]:
     """The frames of a history that comes to it. The last two are revisions: to the prices from 2025-01-07, and back."""
-    acts = [(model.ISSUE, card, 0) for card in HELD]
-    acts += [(model.TOP_UP, 1, 2000), (model.ENTER, 1, 2), (model.LEAVE, 1, 1), (model.TOP_UP, 2, 200),
-             (model.LEAVE, 2, 1),
-             (model.TOP_UP, 3, 9000), (model.ENTER, 3, 2), (model.TOP_UP, 3, 900), (model.LEAVE, 3, 1),
-             (model.TOP_UP, 4, 2000), (model.ENTER, 4, 2)]
+    acts = [(codec.ISSUE, card, 0) for card in HELD]
+    acts += [(codec.TOP_UP, 1, 2000), (codec.ENTER, 1, 2), (codec.LEAVE, 1, 1), (codec.TOP_UP, 2, 200),
+             (codec.LEAVE, 2, 1),
+             (codec.TOP_UP, 3, 9000), (codec.ENTER, 3, 2), (codec.TOP_UP, 3, 900), (codec.LEAVE, 3, 1),
+             (codec.TOP_UP, 4, 2000), (codec.ENTER, 4, 2)]
     frames = []
     for number, (kind, card, value) in enumerate(acts, 1):
-        words = [MORNING + number] if kind == model.ISSUE else [value, MORNING + number]
-        frames.append(model.touch(kind, 7, number, card, *words))
-    frames.append(model.touch(model.REVISE, 65_535, 20_095, 0, PRICES.digest, 20_095, 0))
-    frames.append(model.touch(model.REVISE, 65_535, FAR, 0, FIRST.digest, FAR, 0))
+        words = [MORNING + number] if kind == codec.ISSUE else [value, MORNING + number]
+        frames.append(codec.touch(kind, 7, number, card, *words))
+    frames.append(codec.touch(codec.REVISE, 65_535, 20_095, 0, PRICES.digest, 20_095, 0))
+    frames.append(codec.touch(codec.REVISE, 65_535, FAR, 0, FIRST.digest, FAR, 0))
     return frames
 
 
@@ -58,12 +56,12 @@ class Station:
         shutil.copy(REVISED, self.folder / "prices.toml")
         frames = touches() if frames is None else frames
         self.old = self.folder / "station.journal"
-        self.old.write_bytes(model.journal_of(frames, capacity or len(frames), cards, FIRST.digest))
+        self.old.write_bytes(layout.journal_of(frames, capacity or len(frames), cards, FIRST.digest))
         self.listen = f"127.0.0.1:{harness.free_port()}"
         self.config.write_text(f"table = first.toml\njournal = station.journal\ncards = {cards}\ncapacity = 9\n"
                                f"listen = {self.listen}\nlines = 4\nrevised = prices.toml\n")
         starter = folder / "start"
-        starter.write_text(f"exec >/dev/null 2>&1 </dev/null\nsetsid {TOP}/scripts/start --config {self.config} --folder "
+        starter.write_text(f"exec >/dev/null 2>&1 </dev/null\nsetsid {BIN}/bovtrila-start --config {self.config} --folder "
                            f"{self.folder} --program {PROGRAM} --user {pwd.getpwuid(os.geteuid()).pw_name} &\n"
                            f"echo $! >{self.pid}\n")
         stopper = f"test ! -e {self.pid} || kill $(cat {self.pid}) 2>/dev/null; rm -f {self.pid}"
@@ -149,12 +147,12 @@ class Stations(harness.ProgramTest):
                          f"--capacity 5000 --listen {station.listen} --lines 4 first.toml")
         self.assertTrue(serving.has_server(station.folder / "next.journal"))
         for card, pence in CARRIED.items():
-            self.assertEqual(wire.in_words(model.enquiry(card), station.ask(model.enquiry(card))),
+            self.assertEqual(wire.in_words(codec.enquiry(card), station.ask(codec.enquiry(card))),
                              f"card {card} outside; balance {pence}, after {count} touches")
         content = (station.folder / "next.journal").read_bytes()
         self.assertEqual(len(content), 65 + 64 * 5000)
         self.assertEqual(len(model.journal(content, PRICES, 10)[0]), count)
-        old = model.journal_of(touches(), 18, 10, FIRST.digest)
+        old = layout.journal_of(touches(), 18, 10, FIRST.digest)
         self.assertEqual((station.old.read_bytes(), (work / "old.journal").read_bytes()), (old, old))
         self.assertEqual((work / "page").read_text().splitlines()[0], "next.journal follows station.journal.")
         self.assertFalse((work / "stopped").exists())

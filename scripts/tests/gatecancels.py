@@ -1,5 +1,5 @@
-"""The tests of cancelled calls, for scripts/tests/gate-library: a signal's handler or another thread ends a call that waits
-for a server (docs/GATE_LIBRARY.md, "To end a call that waits")."""
+"""The tests of cancelled calls, for scripts/tests/test_gate_library.py: a signal's handler or another thread ends a call
+that waits for a server (docs/reference/GATE_LIBRARY.md, "To end a call that waits")."""
 import contextlib
 import errno
 import os
@@ -15,8 +15,7 @@ import unittest
 from collections.abc import Iterator, Sequence
 
 import clients
-import model
-import wire
+from bovtrila import codec, vector_file, wire
 from clients import CAUSE, CLIENT, FIRST, RESULT, SOURCE, Asker, Careful, GateTest, Line, journey
 from harness import TIME, TOP
 from listening import Door
@@ -36,7 +35,7 @@ class Holding:
     """A server over the model that records each touch when it comes, and sends its answer when the test asks for it."""
 
     def __init__(self, test: unittest.TestCase) -> None:
-        self.station, self.came = wire.vectors()[0].model(), threading.Condition()
+        self.station, self.came = vector_file.read()[0].model(), threading.Condition()
         self.asked: list[bytes] = []
         self.answers: list[bytes] = []
         self.lines: list[socket.socket] = []
@@ -321,13 +320,13 @@ class Cancels(GateTest):
         self.assertEqual(own, 4)
 
     def test_the_example_of_the_page_ends_at_a_signal_and_leaves_its_touch(self) -> None:
-        page = (TOP / "docs" / "GATE_LIBRARY.md").read_text()
+        page = (TOP / "docs" / "reference" / "GATE_LIBRARY.md").read_text()
         source = self.folder / "example.c"
         shown = re.search(r"## To end a call that waits\n.*?```c\n(.*?)```", page, re.S)
         assert shown, "the page has an example"
         source.write_text(shown[1])
         program = clients.built(self.folder / "example", [source, SOURCE], include=CLIENT)
-        server, frame = Holding(self), model.touch(model.ENTER, 7, 1, 3, 2, 0)
+        server, frame = Holding(self), codec.touch(codec.ENTER, 7, 1, 3, 2, 0)
         self.new_file()
         # Of its two cards the second is never asked for.
         gate = subprocess.Popen([program, self.file, server.text, "3", "4"], stdout=subprocess.PIPE, text=True)
@@ -342,7 +341,7 @@ class Cancels(GateTest):
         self.assertEqual([asked[:-4] for asked in server.asked], [frame[:-4]])
         self.assertEqual(self.file.read_bytes(), clients.file_of(server.asked, 1000, 7))
         with self.open(server.text) as asker:
-            self.assertEqual(asker.ask("waiting")[:3], [model.ENTER, 1, 3])
+            self.assertEqual(asker.ask("waiting")[:3], [codec.ENTER, 1, 3])
 
 
 class Often:

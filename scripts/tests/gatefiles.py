@@ -1,5 +1,5 @@
-"""The tests of a gate's file, for scripts/tests/gate-library: refused files, losses of power, and calls of the system that
-fail."""
+"""The tests of a gate's file, for scripts/tests/test_gate_library.py: refused files, losses of power, and calls of the
+system that fail."""
 import errno
 import os
 import pathlib
@@ -13,9 +13,8 @@ from collections.abc import Iterable, Sequence
 
 import clients
 import harness
-import model
 import power
-import wire
+from bovtrila import codec, layout, model, vector_file, wire
 from clients import CAUSE, FIRST, RESULT, SOURCE, TESTS, Asker, Careful, GateTest, Gone, Line, Told, journey, replied_to
 from harness import EXAMPLE, TIME, TOP
 from planted import Planted
@@ -33,7 +32,7 @@ class Files(GateTest):
     def test_a_file_is_made_by_the_bytes_of_the_page(self) -> None:
         self.assertEqual(self.create(258, 5), [CAUSE["OK"], 0, 0])
         self.assertEqual(self.file.read_bytes(), clients.file_of([], 5, 258))
-        section = (TOP / "docs" / "JOURNAL.md").read_text().split("## A gate's file\n")[1].split("\n## ")[0]
+        section = (TOP / "docs" / "reference" / "JOURNAL.md").read_text().split("## A gate's file\n")[1].split("\n## ")[0]
         rows = re.findall(r"(?m)^([0-9a-f]{4})  ((?:[0-9a-f]{2} ?)+)", section)
         shown = dict((int(at, 16), bytes.fromhex(digits)) for at, digits in rows)
         content = clients.file_of([FIRST[0]], 100_000, 7)
@@ -57,24 +56,24 @@ class Files(GateTest):
 
     def test_each_cause_of_an_opening_is_told(self) -> None:
         whole = clients.file_of(self.frames, 10, 7)
-        other = model.header_of(10, 1, bytes(32)) + bytes(1)
-        alike = model.header_of(10, 1, clients.tag(7, bytes(30))) + bytes(1)
+        other = layout.header_of(10, 1, bytes(32)) + bytes(1)
+        alike = layout.header_of(10, 1, clients.tag(7, bytes(30))) + bytes(1)
         for name, content, wanted in (("empty", b"", "NOT_A_JOURNAL"), ("64 bytes", whole[:64], "NOT_A_JOURNAL"),
                                       ("text", b"gate 7\n" * 20, "NOT_A_JOURNAL"),
                                       ("version 1", whole[:8] + b"1" + whole[9:], "OTHER_VERSION"),
                                       ("another digest", other, "ANOTHER"),
                                       ("a digest that ends as the tag", alike, "ANOTHER"),
-                                      ("ten cards", model.header_of(10, 10, clients.tag(7)) + bytes(1), "ANOTHER"),
-                                      ("no cards", model.header_of(10, 0, clients.tag(7)) + bytes(1), "BAD_LIMIT"),
-                                      ("no capacity", model.header_of(0, 1, clients.tag(7)) + bytes(1), "BAD_LIMIT"),
+                                      ("ten cards", layout.header_of(10, 10, clients.tag(7)) + bytes(1), "ANOTHER"),
+                                      ("no cards", layout.header_of(10, 0, clients.tag(7)) + bytes(1), "BAD_LIMIT"),
+                                      ("no capacity", layout.header_of(0, 1, clients.tag(7)) + bytes(1), "BAD_LIMIT"),
                                       ("another gate", clients.file_of([], 10, 8), "ANOTHER"),
                                       ("an old file", self.old(7), "OLD_TAG"),
                                       ("another gate's old file", self.old(8), "ANOTHER"),
                                       ("an old file of ten cards", self.old(7, 10), "ANOTHER"),
                                       ("numbers from 0", clients.file_of(
-                                          [model.touch(model.ISSUE, 7, 0, 1, 0)], 10, 7), "FOREIGN"),
+                                          [codec.touch(codec.ISSUE, 7, 0, 1, 0)], 10, 7), "FOREIGN"),
                                       ("another gate's touch", clients.file_of(
-                                          [model.touch(model.ISSUE, 8, 1, 1, 0)], 10, 7), "FOREIGN")):
+                                          [codec.touch(codec.ISSUE, 8, 1, 1, 0)], 10, 7), "FOREIGN")):
             with self.subTest(name):
                 self.write(content)
                 self.assertEqual(self.opening(), [CAUSE[wanted], 0, 0])
@@ -110,10 +109,10 @@ class Files(GateTest):
 
     def old(self, gate: int, cards: int = 1) -> bytes:
         """The file of a gate as the library wrote it before version 1.1."""
-        return model.journal_of(self.frames, 10, cards, clients.old_tag(gate))
+        return layout.journal_of(self.frames, 10, cards, clients.old_tag(gate))
 
     def test_an_old_file_is_changed_over_by_the_commands_of_the_page(self) -> None:
-        page = (TOP / "docs" / "GATE_LIBRARY.md").read_text()
+        page = (TOP / "docs" / "reference" / "GATE_LIBRARY.md").read_text()
         shown = re.search(r"### To change an old file over.*?```\n(.*?)```", page, re.S)
         assert shown, "the page has commands"
         self.file = self.folder / "gate.file"
@@ -214,13 +213,13 @@ class Files(GateTest):
         self.assertEqual(self.opening()[0], CAUSE["OK"])
 
     def test_a_long_file_is_opened(self) -> None:
-        frames = [model.touch(model.ISSUE, 7, number, 1, 0) for number in range(1, 5001)]
+        frames = [codec.touch(codec.ISSUE, 7, number, 1, 0) for number in range(1, 5001)]
         for count in (63, 64, 65, 128, 5000):
             for capacity in (count, count + 1):
                 with self.subTest(count):
                     self.write(clients.file_of(frames[:count], capacity, 7))
                     with self.open("127.0.0.1:1") as asker:
-                        self.assertEqual((asker.opened, asker.ask("waiting")[:2]), ([0, 0, 0], [model.ISSUE, count]))
+                        self.assertEqual((asker.opened, asker.ask("waiting")[:2]), ([0, 0, 0], [codec.ISSUE, count]))
 
     def check_bytes(self, program: pathlib.Path) -> int:
         """Each byte of a file changed to each other value."""
@@ -344,7 +343,7 @@ class Power(GateTest):
         return log.calls()
 
     def check_kept_first(self) -> None:
-        """Nothing is sent that isn't durable, and the writes are those of docs/JOURNAL.md."""
+        """Nothing is sent that isn't durable, and the writes are those of docs/reference/JOURNAL.md."""
         disk = power.Disk()
         sent: list[bytes] = []
         for name, at, data in self.logged():
@@ -414,8 +413,8 @@ class Steps(GateTest):
         return bytes.fromhex(digits)
 
     def test_touches_over_lines_of_the_gate_s_own(self) -> None:
-        revision = model.touch(model.REVISE, 7, 5, 0, bytes(range(32)), -3, 1736149800)
-        frames, station = [*FIRST, revision], wire.vectors()[0].model()
+        revision = codec.touch(codec.REVISE, 7, 5, 0, bytes(range(32)), -3, 1736149800)
+        frames, station = [*FIRST, revision], vector_file.read()[0].model()
         self.create()
         with self.open([]) as asker:
             self.assertEqual(asker.opened, [CAUSE["OK"], 0, 0])
@@ -429,19 +428,19 @@ class Steps(GateTest):
                 answer = station.answer(frame)
                 told = clients.told_by(answer, place + 1)
                 for size in range(len(answer)):
-                    if answer[2] == model.REPLY:
+                    if answer[2] == codec.REPLY:
                         self.assertEqual(asker.ask(f"hear {answer[:size].hex()}"),
                                          [RESULT["NO_ANSWER"], place + 1, 0, 0, 0, 0])
                 self.assertEqual(asker.ask(f"hear {answer.hex()}"), told)
-                self.assertEqual(asker.ask("waiting") == [], answer[2] == model.REPLY)
+                self.assertEqual(asker.ask("waiting") == [], answer[2] == codec.REPLY)
             # The example's station has no table for the revision: that is a fault, and the touch waits.
             self.assertEqual((told[0], self.frame_of(asker)), (RESULT["FAULT"], revision))
         with self.open([]) as asker:
             self.assertEqual(self.frame_of(asker), revision)
 
     def test_enquiries_over_lines_of_the_gate_s_own(self) -> None:
-        pairs = [(vector.request, vector.answer) for station in wire.vectors() for vector in station.vectors
-                 if wire.is_request(vector.request) and vector.request[2] == model.ENQUIRE]
+        pairs = [(vector.request, vector.answer) for station in vector_file.read() for vector in station.vectors
+                 if wire.is_request(vector.request) and vector.request[2] == codec.ENQUIRE]
         self.assertGreater(len(pairs), 10)
         self.create()
         with self.open([]) as asker:
@@ -456,9 +455,9 @@ class Steps(GateTest):
                                          [RESULT["NO_ANSWER"], 0, 0, 0, 0])
                     for more in (b"", answer):
                         self.assertEqual(asker.ask(f"hear-enquiry {(answer + more).hex()}"), clients.told_by(answer, 0))
-            for answer, wanted in ((model.fault(3), [RESULT["FAULT"], 0, 3, 0, 0]),
-                                   (model.fault(1), [RESULT["FAULT"], 0, 1, 0, 0]),
-                                   (model.fault(3, 7, 1), [RESULT["STRAY"], 0, 0, 0, 0]),
+            for answer, wanted in ((codec.fault(3), [RESULT["FAULT"], 0, 3, 0, 0]),
+                                   (codec.fault(1), [RESULT["FAULT"], 0, 1, 0, 0]),
+                                   (codec.fault(3, 7, 1), [RESULT["STRAY"], 0, 0, 0, 0]),
                                    (replied_to(FIRST[0]), [RESULT["STRAY"], 0, 0, 0, 0]),
                                    (b"\x01", [RESULT["STRAY"], 0, 0, 0, 0])):
                 with self.subTest(answer.hex()):
@@ -471,9 +470,9 @@ class Steps(GateTest):
         reply = replied_to(FIRST[0])
         with self.open([]) as asker:
             self.keep(asker, FIRST[0])
-            for answer, wanted in ((model.fault(2, 7, 1), [RESULT["FAULT"], 1, 0, 2, 0, 0]),
-                                   (model.fault(1), [RESULT["FAULT"], 1, 0, 1, 0, 0]),
-                                   (model.fault(3, 7, 2), [RESULT["STRAY"], 1, 0, 0, 0, 0]),
+            for answer, wanted in ((codec.fault(2, 7, 1), [RESULT["FAULT"], 1, 0, 2, 0, 0]),
+                                   (codec.fault(1), [RESULT["FAULT"], 1, 0, 1, 0, 0]),
+                                   (codec.fault(3, 7, 2), [RESULT["STRAY"], 1, 0, 0, 0, 0]),
                                    (replied_to(FIRST[1]), [RESULT["STRAY"], 1, 0, 0, 0, 0]),
                                    (b"\x01", [RESULT["STRAY"], 1, 0, 0, 0, 0]),
                                    (b"", [RESULT["NO_ANSWER"], 1, 0, 0, 0, 0])):
@@ -552,15 +551,15 @@ class Shared(GateTest):
     @staticmethod
     def line_of(frame: bytes, answer: bytes) -> str:
         """The line of a touch and its answer: the fields of a history's row from the gate on."""
-        kind, gate, number, card, *act = struct.unpack(model.FORMS[frame[2]], frame[2:])
-        where, pence = (act[0] if kind == one else "" for one in (kind if kind in (model.ENTER, model.LEAVE) else None,
-                                                                  model.TOP_UP))
+        kind, gate, number, card, *act = struct.unpack(codec.FORMS[frame[2]], frame[2:])
+        where, pence = (act[0] if kind == one else "" for one in (kind if kind in (codec.ENTER, codec.LEAVE) else None,
+                                                                  codec.TOP_UP))
         verdict, change, balance = struct.unpack(">Biq", answer[9:])
-        return f"{gate},{number},{card},{model.ACTS[kind]},{where},{pence},{model.VERDICTS[verdict]},{change},{balance}"
+        return f"{gate},{number},{card},{codec.ACTS[kind]},{where},{pence},{model.VERDICTS[verdict]},{change},{balance}"
 
     def check_turns(self, frames: Sequence[bytes], first: str) -> None:
         """Touches that the two ask in turn, one each, and then the file, the history and each answer."""
-        server, station = self.planted(), wire.vectors()[0].model()
+        server, station = self.planted(), vector_file.read()[0].model()
         answers = [station.answer(frame) for frame in frames]
         lines = [self.line_of(frame, answer) for frame, answer in zip(frames, answers)]
         if first == "library":
@@ -590,7 +589,7 @@ class Shared(GateTest):
         frames, server = FIRST[:3], self.planted()
         answers = [server.station.answer(frame) for frame in frames[:2]]
         self.create()
-        with self.open(Told(self, [*answers, model.fault(4, 7, 3)]).text) as asker:
+        with self.open(Told(self, [*answers, codec.fault(4, 7, 3)]).text) as asker:
             Careful(frames[:2]).run(asker)
             self.assertEqual(asker.ask(clients.act_of(frames[2])), [RESULT["FAULT"], 3, 0, 4, 0, 0])
         self.assertEqual(self.file.read_bytes(), clients.file_of(frames, 1000, 7))
@@ -625,7 +624,7 @@ class Shared(GateTest):
         assert sender.stdin and sender.stdout, "pipes"
         sender.stdin.write("at 1736149800 issue 1\n")
         sender.stdin.flush()
-        answer = wire.vectors()[0].model().answer(FIRST[0])
+        answer = vector_file.read()[0].model().answer(FIRST[0])
         self.assertEqual(sender.stdout.readline(), self.line_of(FIRST[0], answer) + "\n")
         with self.open("127.0.0.1:1") as asker:
             self.assertEqual(asker.opened[0], CAUSE["IN_USE"])

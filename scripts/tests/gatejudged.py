@@ -1,5 +1,5 @@
-"""What gate_send does without an answer, or with another one: scripts/stand-in judges it by docs/PROTOCOL.md. For
-scripts/tests/gate-sends."""
+"""What gate_send does without an answer, or with another one: bovtrila-stand-in judges it by docs/reference/PROTOCOL.md. For
+scripts/tests/test_gate_sends.py."""
 import concurrent.futures
 import os
 import pathlib
@@ -24,8 +24,8 @@ def stand_in(case: SendTest, script: str, *more: str | pathlib.Path) -> tuple[su
     """A stand-in for a server that answers by this script, and its address. It waits for the test, however slow that is."""
     steps = case.folder / "script"
     steps.write_text(script + "rest answer\n")
-    words = [str(TOP / "scripts" / "stand-in"), "127.0.0.1:0", str(steps), "--linger", str(TIME), "--patience", str(TIME),
-             *map(str, more)]
+    words = [str(TOP / "bin" / "bovtrila-stand-in"), "127.0.0.1:0", str(steps), "--linger", str(TIME), "--patience",
+             str(TIME), *map(str, more)]
     judge = subprocess.Popen(words, stdout=subprocess.PIPE, stderr=subprocess.PIPE, text=True)
     case.addCleanup(judge.communicate)
     case.addCleanup(judge.kill)
@@ -89,7 +89,7 @@ class Judged(SendTest):
 
 
 class Starts(SendTest):
-    """A gate over gate_send that is started again (docs/PROTOCOL.md, "After a gate's start")."""
+    """A gate over gate_send that is started again (docs/reference/PROTOCOL.md, "After a gate's start")."""
 
     def test_a_start_isn_t_over_before_a_run_by_resend_ends_with_status_0(self) -> None:
         _, station = stand_in(self, "answer\nanswer\nclose\nfault 5\nanswer\n")

@@ -3,7 +3,7 @@ import os
 import subprocess
 import time
 
-import model
+from bovtrila import codec, layout
 from harness import TIME
 from sending import (ANSWERED, FRAMES, MORNING, Scripted, SendTest, address_of, file_of, free_address, reply)
 
@@ -54,8 +54,8 @@ class Lines(SendTest):
                                    station.address)
         self.assertEqual((status, out), (0, ["7,1,4294967295,in,65535,,UnknownCard,0,0",
                                              "7,2,0,top-up,,4294967295,UnknownCard,0,0"]))
-        self.assertEqual(station.requests, [model.touch(model.ENTER, 7, 1, 2**32 - 1, 65535, 2**32 - 1),
-                                            model.touch(model.TOP_UP, 7, 2, 0, 2**32 - 1, 0)])
+        self.assertEqual(station.requests, [codec.touch(codec.ENTER, 7, 1, 2**32 - 1, 65535, 2**32 - 1),
+                                            codec.touch(codec.TOP_UP, 7, 2, 0, 2**32 - 1, 0)])
 
     def test_a_last_line_without_a_line_feed_is_a_line(self) -> None:
         station = address_of(self.station())
@@ -71,9 +71,9 @@ class Files(SendTest):
         for name, content, fault in (
                 ("empty", b"", "5 NoFile"), ("text", b"gate 7\n" * 20, "5 NoFile"),
                 ("another gate", file_of([], 10, 8), "6 AnotherFile"),
-                ("a server's", model.header_of(10, 10, bytes(32)) + bytes(1), "6 AnotherFile"),
+                ("a server's", layout.header_of(10, 10, bytes(32)) + bytes(1), "6 AnotherFile"),
                 ("cut", whole[:-2], "7 Damaged 1"),
-                ("numbers from 0", file_of([model.touch(model.ISSUE, 7, 0, 1, 0)], 10, 7), "8 Foreign 0")):
+                ("numbers from 0", file_of([codec.touch(codec.ISSUE, 7, 0, 1, 0)], 10, 7), "8 Foreign 0")):
             with self.subTest(name):
                 self.file.write_bytes(content)
                 behind = self.assertFault(self.send(MORNING, free_address()), f"fault gate-file {fault}")

@@ -1,5 +1,5 @@
 """Losses of power of a gate's disk: the files that each moment of a run of gate_send may leave, and the runs that continue
-from them. For scripts/tests/gate-sends."""
+from them. For scripts/tests/test_gate_sends.py."""
 import os
 import random
 import re
@@ -8,8 +8,8 @@ import subprocess
 from collections.abc import Iterable, Iterator
 from typing import NamedTuple
 
-import model
 import power
+from bovtrila import codec, layout, model
 from harness import EXAMPLE, TIME
 from running import Server
 from sending import SendTest, address_of, tag, touches_in, town
@@ -113,11 +113,11 @@ class Power(SendTest):
 
     def other(self, number: int) -> bytes:
         """The frame of the other touch under this number."""
-        return model.touch(model.ISSUE, 7, number, 9, 1736160000)
+        return codec.touch(codec.ISSUE, 7, number, 9, 1736160000)
 
     def station_with(self, count: int) -> Server:
         """A station whose journal has so many of the touches."""
-        (self.folder / "journal").write_bytes(model.journal_of(FRAMES[:count], 1000, 10, TABLE.digest))
+        (self.folder / "journal").write_bytes(layout.journal_of(FRAMES[:count], 1000, 10, TABLE.digest))
         return self.station()
 
     def recorded(self) -> list[bytes] | None:
@@ -177,7 +177,7 @@ class Power(SendTest):
                 self.assertEqual((status, out, err.splitlines()[0]), (1, [], "fault gate-file 5 NoFile"))
                 self.assertEqual(self.file.read_bytes(), image)
                 if image and not is_unfinished(image):
-                    # The bytes may be somebody's. The remedy: docs/FAULTS.md, "Faults of gate_send".
+                    # The bytes may be somebody's. The remedy: docs/reference/FAULTS.md, "Faults of gate_send".
                     self.assertEqual(self.send([self.OTHER], "--new", station)[0], 1)
                     self.assertEqual(self.file.read_bytes(), image)
                     self.file.unlink()
@@ -193,8 +193,8 @@ class Power(SendTest):
 
     def test_a_second_loss_of_power_is_as_the_first(self) -> None:
         """The first one left open marks behind the touches, or whole touches that would count if they weren't closed."""
-        whole = model.journal_of(FRAMES[:5], 9, 1, tag(7))
-        stale = model.slot_of(model.touch(model.ISSUE, 7, 9, 3, 0))
+        whole = layout.journal_of(FRAMES[:5], 9, 1, tag(7))
+        stale = layout.slot_of(codec.touch(codec.ISSUE, 7, 9, 3, 0))
         for behind in (b"\xa5" * 200, stale[1:] + 2 * stale):
             image = whole + behind
             for torn, kept, recorded in self.images(32, image, 5):

@@ -1,5 +1,5 @@
-"""The tests of the results after a gate's start, for scripts/tests/gate-library: touches that were made before it, and the
-mark of a touch whose reply the caller has acted on (docs/GATE_LIBRARY.md, "The mark")."""
+"""The tests of the results after a gate's start, for scripts/tests/test_gate_library.py: touches that were made before it,
+and the mark of a touch whose reply the caller has acted on (docs/reference/GATE_LIBRARY.md, "The mark")."""
 import errno
 import os
 import pathlib
@@ -7,8 +7,8 @@ import subprocess
 import time
 
 import clients
-import model
-import wire
+import test_gate_makers as makers
+from bovtrila import codec, wire
 from clients import CAUSE, CLIENT, FIRST, RESULT, SOURCE, GateTest, Line, Told, replied_to
 from harness import EXAMPLE, PROGRAM, TIME
 
@@ -53,18 +53,18 @@ class Starts(GateTest):
     def test_a_touch_of_before_the_start_is_told_by_a_result_of_its_own(self) -> None:
         self.create()
         self.asked(*FIRST[:3])
-        reply = model.framed(">BHIBiq", model.REPLY, 7, 3, 1, -900, 1100)
+        reply = codec.framed(">BHIBiq", codec.REPLY, 7, 3, 1, -900, 1100)
         self.assertEqual(self.told_at_a_start(reply), [RESULT["ACCEPTED_EARLIER"], 3, 1, 0, -900, 1100])
         # A verdict that has no meaning yet is told in the same way, and a refusal as ever.
-        reply = model.framed(">BHIBiq", model.REPLY, 7, 3, 19, 0, 1100)
+        reply = codec.framed(">BHIBiq", codec.REPLY, 7, 3, 19, 0, 1100)
         self.assertEqual(self.told_at_a_start(reply), [RESULT["ACCEPTED_EARLIER"], 3, 19, 0, 0, 1100])
-        reply = model.framed(">BHIBiq", model.REPLY, 7, 3, 24, 0, 200)
+        reply = codec.framed(">BHIBiq", codec.REPLY, 7, 3, 24, 0, 200)
         self.assertEqual(self.told_at_a_start(reply), [RESULT["REFUSED"], 3, 24, 0, 0, 200])
 
     def test_a_touch_of_this_start_is_told_as_such_behind_one_of_before(self) -> None:
         self.create()
         self.asked(FIRST[0])
-        self.server.answers = [replied_to(FIRST[0]), model.fault(4, 7, 2), replied_to(FIRST[1])]
+        self.server.answers = [replied_to(FIRST[0]), codec.fault(4, 7, 2), replied_to(FIRST[1])]
         with self.open(self.server.text) as asker:
             self.assertEqual(asker.ask(clients.act_of(FIRST[1]))[0], RESULT["EARLIER_SETTLED"])
             asker.ask("settled")
@@ -96,7 +96,7 @@ class Starts(GateTest):
         self.assertEqual(self.server.asked, FIRST)
 
     def test_a_revision_may_be_done(self) -> None:
-        revision = model.touch(model.REVISE, 7, 1, 0, bytes(range(32)), -3, MONDAY)
+        revision = codec.touch(codec.REVISE, 7, 1, 0, bytes(range(32)), -3, MONDAY)
         self.create()
         self.asked(revision, done=True)
         self.assertEqual(self.mark.read_bytes(), revision)
@@ -115,7 +115,7 @@ class Starts(GateTest):
                 if mark is not None:
                     self.mark.write_bytes(mark)
                 with self.open([]) as asker:
-                    self.assertEqual(asker.ask("waiting")[:2], [model.TOP_UP, 2])
+                    self.assertEqual(asker.ask("waiting")[:2], [codec.TOP_UP, 2])
         self.mark.write_bytes(right)
         with self.open([]) as asker:
             self.assertEqual(asker.ask("waiting"), [])
@@ -160,30 +160,30 @@ class Starts(GateTest):
                 self.assertEqual(asker.ask(clients.act_of(frame))[0], RESULT["ACCEPTED"])
                 self.assertEqual((asker.ask("done"), asker.ask("error")), ([0], [errno.EISDIR]))
         with self.open([]) as asker:
-            self.assertEqual(asker.ask("waiting")[:2], [model.TOP_UP, 2])
+            self.assertEqual(asker.ask("waiting")[:2], [codec.TOP_UP, 2])
             self.assertEqual(asker.ask("error"), [errno.EISDIR])
         # A pipe isn't waited for.
         self.mark.rmdir()
         os.mkfifo(self.mark)
         with self.open([]) as asker:
-            self.assertEqual(asker.ask("waiting")[:2], [model.TOP_UP, 2])
+            self.assertEqual(asker.ask("waiting")[:2], [codec.TOP_UP, 2])
 
     def test_nothing_is_marked_that_was_not_settled(self) -> None:
         self.create()
         with self.open(self.server.text) as asker:
             self.assertEqual(asker.ask("done"), [0])
-            self.server.answers = [model.fault(4, 7, 1)]
+            self.server.answers = [codec.fault(4, 7, 1)]
             asker.ask(clients.act_of(FIRST[0]))
             self.assertEqual(asker.ask("done"), [0])
         self.assertFalse(self.mark.exists())
         # A touch that waits, or that the disk failed for, isn't marked by the one before it.
-        self.server.answers = [replied_to(FIRST[0]), model.fault(4, 7, 2)]
+        self.server.answers = [replied_to(FIRST[0]), codec.fault(4, 7, 2)]
         with self.open(self.server.text) as asker:
             asker.ask("resend")
             asker.ask(clients.act_of(FIRST[1]))
             self.assertEqual((asker.ask("done"), self.mark.read_bytes()), ([1], mark_of(FIRST[0])))
         with self.open([]) as asker:
-            self.assertEqual(asker.ask("waiting")[:2], [model.TOP_UP, 2])
+            self.assertEqual(asker.ask("waiting")[:2], [codec.TOP_UP, 2])
 
     def test_a_touch_that_the_disk_failed_for_is_not_marked(self) -> None:
         log = clients.Log(clients.program("calls"))
@@ -201,7 +201,7 @@ class Starts(GateTest):
             self.assertEqual(asker.ask(clients.act_of(FIRST[1]))[0], RESULT["DEVICE"])
             asker.ask("done")
         with self.open([]) as asker:
-            self.assertEqual(asker.ask("waiting")[:2], [model.TOP_UP, 2])
+            self.assertEqual(asker.ask("waiting")[:2], [codec.TOP_UP, 2])
 
 
 class StartedExamples(GateTest):
@@ -211,7 +211,7 @@ class StartedExamples(GateTest):
         super().setUp()
         self.server = self.serve()
         with wire.Connection(self.server.address, TIME) as line:
-            for frame in (model.touch(model.ISSUE, 1, 1, 1, MONDAY), model.touch(model.TOP_UP, 1, 2, 1, 2000, MONDAY)):
+            for frame in (codec.touch(codec.ISSUE, 1, 1, 1, MONDAY), codec.touch(codec.TOP_UP, 1, 2, 1, 2000, MONDAY)):
                 line.send(frame)
                 line.take()
 
@@ -286,7 +286,7 @@ class StartedExamples(GateTest):
             entering.write("9\n")
             entering.flush()
             self.assertEqual(self.next_line(gate), "closed 9: no such card\n")
-        self.assertEqual(self.kinds(), [model.ENTER, model.ENTER])
+        self.assertEqual(self.kinds(), [codec.ENTER, codec.ENTER])
 
     def test_a_passenger_of_before_the_start_is_charged_once_and_left_to_the_staff(self) -> None:
         program, reader = self.two_readers()
@@ -297,12 +297,12 @@ class StartedExamples(GateTest):
             entering.write("1\n")
             entering.flush()
             self.assertEqual(self.next_line(gate), "closed 1: accepted, before this start\n")
-        self.assertEqual(self.kinds(), [model.ENTER])
+        self.assertEqual(self.kinds(), [codec.ENTER])
 
     def judged(self, said: str, *planted: str) -> tuple[int, list[str]]:
-        """What scripts/stand-in says of the gate and its barrier, over a loss of power. After its start the gate says this
+        """What bovtrila-stand-in says of the gate and its barrier, over a loss of power. After its start the gate says this
         of its first touch."""
-        rig, (program, reader) = clients.makers.Rig(self, "rest reply 1 -900 1100\n"), self.two_readers(*planted)
+        rig, (program, reader) = makers.Rig(self, "rest reply 1 -900 1100\n"), self.two_readers(*planted)
         self.server = rig.running
         self.let_through(program, reader)
         rig.tell("7 1")

@@ -2,6 +2,7 @@
 
 A test that the machine can't run is skipped, and a line reports the reason: it counts as neither.
 """
+import atexit
 import contextlib
 import hashlib
 import os
@@ -17,9 +18,14 @@ from collections.abc import Iterable, Sequence
 from types import TracebackType
 from typing import IO, Any, TypeAlias
 
-import wire
-
 TOP = pathlib.Path(__file__).resolve().parents[2]
+# Tests and developers' scripts import this module first: it finds for them the package of the commands, and one another.
+sys.path[1:1] = [str(TOP / folder) for folder in ("tools", "scripts/tests", "scripts/dev")]
+
+from bovtrila import vector_file
+
+# The commands bovtrila-NAME.
+BIN = TOP / "bin"
 CRATES = TOP / "crates"
 PROGRAM = CRATES / "tap_server" / "out" / "tap_server"
 # The program of replay and check alone.
@@ -36,6 +42,10 @@ Error: TypeAlias = tuple[type[BaseException], BaseException, TracebackType] | tu
 
 # How many seconds a run of the program may take.
 TIME = 60
+
+# What is left to the end of a process: it removes folders, and ends servers that many tests use.
+AT_END = contextlib.ExitStack()
+atexit.register(AT_END.close)
 
 
 # From this port on the system hands them out by itself, also to those who connect.
@@ -71,8 +81,8 @@ BESIDE = re.compile(r"^(?:  .*|note: .*|new journal .*|(?:pairs|interchanges|hol
 
 
 def run(words: Sequence[Word], given: bytes = b"", **options: Any) -> Ran:
-    """Runs the program: its status, its output, and what stands on standard error, but for what scripts/tests/told-faults
-    looks at: the line behind that of a fault, and the notes on a table."""
+    """Runs the program: its status, its output, and what stands on standard error, but for what
+    scripts/tests/test_told_faults.py looks at: the line behind that of a fault, and the notes on a table."""
     status, out, err = run_whole(words, given, **options)
     return status, out, fault_of(err)
 
@@ -120,7 +130,7 @@ def lines(texts: Iterable[str]) -> bytes:
 def vectors(server: str = "example") -> dict[str, list[tuple[str, str]]]:
     """The frames of a server of docs/vectors.txt: pairs of a request and its answer, by the section that they stand
     in."""
-    station = next(station for station in wire.vectors() if station.name == server)
+    station = next(station for station in vector_file.read() if station.name == server)
     sections: dict[str, list[tuple[str, str]]] = {name: [] for name in station.sections}
     for vector in station.vectors:
         sections[vector.section].append((vector.request.hex(), vector.answer.hex()))

@@ -1,17 +1,15 @@
-"""Changes a fare table in one key at a time: `check --against` has to report each change. For scripts/tests/bad-tables.
+"""Changes a fare table in one key at a time: `check --against` has to report each change. For
+scripts/tests/test_bad_tables.py.
 
 The keys, and what each may hold, are read from the code (scripts/dev/fact_keys.py), so a new key is tried too.
 """
 import copy
 import json
 import pathlib
-import sys
 import tempfile
 import tomllib
 from collections.abc import Callable, Iterable, Iterator
 from typing import Any, TypeAlias
-
-sys.path.append(f"{sys.path[0]}/../dev")
 
 import fact_keys
 import harness

@@ -37,7 +37,6 @@ def words(place: int, script: str | pathlib.Path, *more: object) -> list[str]:
 
 if __name__ == "__main__":
     count, sys.argv = int(sys.argv[1]), sys.argv[2:]
-    sys.path.insert(0, os.path.dirname(os.path.abspath(sys.argv[0])))
     sys.dont_write_bytecode = True
     sys.addaudithook(Counter(count))
     runpy.run_path(sys.argv[0], run_name="__main__")

@@ -4,7 +4,7 @@ import socket
 import threading
 from collections.abc import Callable
 
-import wire
+from bovtrila import wire
 
 
 class Door:

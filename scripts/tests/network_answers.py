@@ -1,5 +1,5 @@
 """Tests that the network's database gives no wrong answer without saying so: months that are detached, transfers, servers
-that weren't loaded, journals that were loaded twice, and rows that were changed. For scripts/tests/network."""
+that weren't loaded, journals that were loaded twice, and rows that were changed. For scripts/tests/test_network.py."""
 import contextlib
 import os
 import pathlib
@@ -7,29 +7,30 @@ import signal
 import subprocess
 from collections.abc import Iterable
 
-import model
 import town
-from harness import EXAMPLE, PROGRAM
-from network_base import (NETWORK, TABLES, TIME, BaseTest, OnPostgres, OnSqlite, OverBoth, call, database, driven,
-                          load, network, room, words_of)
+from bovtrila import codec, layout, model
+from bovtrila.network import database
+from harness import BIN, EXAMPLE, PROGRAM
+from network_base import (TABLES, TIME, BaseTest, OnPostgres, OnSqlite, OverBoth, call, driven, load, network, room,
+                          words_of)
 
 # Monday 2025-01-06 at 08:00 UTC. From station 1 to station 2 the example table charges 900 at the touch in, and gives 550
-# back at the touch out (docs/NETWORK.md, "From two servers to the first query").
+# back at the touch out (docs/operate/NETWORK.md, "From two servers to the first query").
 MONDAY = 1736150400
 TABLE = model.Table(EXAMPLE.read_text())
 
 
 def travel(gate: int, first: int, card: int, moment: int) -> list[bytes]:
     """An issue, a top-up of 2000 pence and a journey, after which the card holds 1650."""
-    return [model.touch(model.ISSUE, gate, first, card, moment),
-            model.touch(model.TOP_UP, gate, first + 1, card, 2000, moment + 60),
-            model.touch(model.ENTER, gate, first + 2, card, 1, moment + 120),
-            model.touch(model.LEAVE, gate, first + 3, card, 2, moment + 900)]
+    return [codec.touch(codec.ISSUE, gate, first, card, moment),
+            codec.touch(codec.TOP_UP, gate, first + 1, card, 2000, moment + 60),
+            codec.touch(codec.ENTER, gate, first + 2, card, 1, moment + 120),
+            codec.touch(codec.LEAVE, gate, first + 3, card, 2, moment + 900)]
 
 
 def journal_of(path: pathlib.Path, frames: Iterable[bytes]) -> pathlib.Path:
     """A journal of these touches."""
-    path.write_bytes(model.journal_of(frames, 10_000, 20, TABLE.digest))
+    path.write_bytes(layout.journal_of(frames, 10_000, 20, TABLE.digest))
     return path
 
 
@@ -129,9 +130,9 @@ class Answers(OverBoth):
         base, home = self.fresh("transfers"), room("network-transfers-")
         self.assertEqual(loaded("Alder", journal_of(home / "old", travel(7, 1, 1, MONDAY)), base, "--closed").returncode, 0)
         later = MONDAY + town.DAY
-        new = journal_of(home / "new", [model.touch(model.ISSUE, 65535, 100000, 1, later),
-                                        model.touch(model.TOP_UP, 65535, 100001, 1, 1650, later),
-                                        model.touch(model.TOP_UP, 7, 5, 1, 500, later + 60)])
+        new = journal_of(home / "new", [codec.touch(codec.ISSUE, 65535, 100000, 1, later),
+                                        codec.touch(codec.TOP_UP, 65535, 100001, 1, 1650, later),
+                                        codec.touch(codec.TOP_UP, 7, 5, 1, 500, later + 60)])
         self.assertEqual(loaded("Alder", new, base).returncode, 0)
         # 2150 is held: 1650 that came from the old journal, and 500 that were paid in here.
         self.assertEqual(self.asked_of("held", base, "--card", "1"),
@@ -145,8 +146,8 @@ class Answers(OverBoth):
 
     def test_transfers_of_another_gate_are_named(self) -> None:
         base, home = self.fresh("gate"), room("network-gate-")
-        new = journal_of(home / "new", [model.touch(model.ISSUE, 900, 1, 1, MONDAY),
-                                        model.touch(model.TOP_UP, 900, 2, 1, 1650, MONDAY)])
+        new = journal_of(home / "new", [codec.touch(codec.ISSUE, 900, 1, 1, MONDAY),
+                                        codec.touch(codec.TOP_UP, 900, 2, 1, 1650, MONDAY)])
         self.assertEqual(loaded("Alder", new, base, "--transfer-gate", 900).returncode, 0)
         self.assertEqual(self.asked_of("held", base, "--card", "1")[1][0][6:8], ("1650", "0"))
         done = loaded("Alder", new, base, "--transfer-gate", 901)
@@ -168,7 +169,8 @@ class Answers(OverBoth):
             with self.subTest(words):
                 read, write = os.pipe()
                 os.close(read)
-                done = subprocess.run([NETWORK / words[0], *words[1:]], stdout=write, stderr=subprocess.PIPE, timeout=TIME)
+                done = subprocess.run([BIN / f"bovtrila-network-{words[0]}", *words[1:]], stdout=write,
+                                      stderr=subprocess.PIPE, timeout=TIME)
                 os.close(write)
                 self.assertEqual((done.returncode, done.stderr), (141, b""))
 
@@ -182,7 +184,7 @@ class Answers(OverBoth):
                 opened.execute("INSERT INTO balances (journal, stage, card, place, state, balance, transferred, paid_in,"
                                " charged) VALUES (1, 'loaded', :card, 0, 'outside', 0, 0, 0, 0)", card=card)
             opened.commit()
-        asked = subprocess.Popen([NETWORK / "query", "holdings", "--database", base], stdout=subprocess.PIPE,
+        asked = subprocess.Popen([BIN / "bovtrila-network-query", "holdings", "--database", base], stdout=subprocess.PIPE,
                                  stderr=subprocess.PIPE)
         assert asked.stdout and asked.stderr, "pipes"
         self.assertEqual(asked.stdout.readline(), b"card,servers,inside,balance,transferred,paid_in,charged\r\n")
@@ -216,9 +218,9 @@ class PostgresAnswers(Answers, OnPostgres, BaseTest):
 
     def test_a_gate_with_random_moments_makes_no_partition_for_each(self) -> None:
         base, home = self.fresh("random"), room("network-random-")
-        frames = travel(7, 1, 1, MONDAY) + [model.touch(model.ISSUE, 8, number, 3, 86_400 * 30 * number)
+        frames = travel(7, 1, 1, MONDAY) + [codec.touch(codec.ISSUE, 8, number, 3, 86_400 * 30 * number)
                                             for number in range(1, 400)]
-        frames[200:200] = [model.touch(model.ISSUE, 7, number, 2, MONDAY + number) for number in range(5, 1000)]
+        frames[200:200] = [codec.touch(codec.ISSUE, 7, number, 2, MONDAY + number) for number in range(5, 1000)]
         self.assertEqual(loaded("Alder", journal_of(home / "alder", frames), base).returncode, 0)
         # The 399 moments are of 393 months from 1970 to 2002, more than a year before the others.
         self.assertEqual(self.partitions(base), ["touches_2025_01", "touches_other"])

@@ -1,4 +1,4 @@
-"""Tests of network/report and network/audit. For scripts/tests/network."""
+"""Tests of bovtrila-network-report and bovtrila-network-audit. For scripts/tests/test_network.py."""
 import json
 import os
 import pathlib
@@ -13,20 +13,20 @@ from typing import Any, ClassVar, TypeAlias
 
 import harness
 import town
-from harness import PROGRAM
-from network_base import (FLIPPED, NETWORK, PYTHON, TABLES, TIME, DatabaseTest, OnSqlite, call, flip, load, network, room)
+from harness import BIN, PROGRAM
+from network_base import (FLIPPED, PYTHON, TABLES, TIME, DatabaseTest, OnSqlite, call, flip, load, network, room)
 
-import seals
+from bovtrila.network import seals
 
 # What a report has of each server.
 Facts: TypeAlias = dict[str, dict[str, Any]]
 
-# What a traceback of network/audit has. Dask's own workers may write some as they end.
-FROM_AUDIT = f'File "{NETWORK / "audit"}"'
+# What a traceback of bovtrila-network-audit has. Dask's own workers may write some as they end.
+FROM_AUDIT = f'File "{BIN / "bovtrila-network-audit"}"'
 
 
 class Reports(OnSqlite, DatabaseTest):
-    """network/report, whose charts are day-report's."""
+    """bovtrila-network-report, whose charts are day-report's."""
 
     base: ClassVar[str]
     page: ClassVar[pathlib.Path]
@@ -36,8 +36,8 @@ class Reports(OnSqlite, DatabaseTest):
     @classmethod
     def setUpClass(cls) -> None:
         super().setUpClass()
-        if subprocess.run([PYTHON, "-c", "import matplotlib"], capture_output=True).returncode:
-            raise unittest.SkipTest("matplotlib isn't here (apt-get install python3-matplotlib)")
+        if subprocess.run([PYTHON, "-c", "import jinja2, matplotlib"], capture_output=True).returncode:
+            raise unittest.SkipTest("libraries aren't here (apt-get install python3-matplotlib python3-jinja2)")
         cls.base, cls.page = cls.fresh("report"), room("network-report-") / "day.html"
         for stage in ("friday", "end"):
             for name in town.SERVERS:
@@ -101,7 +101,7 @@ def pounds(pence: int) -> str:
 
 
 class Audits(harness.ProgramTest):
-    """network/audit: on processes of its own, and on workers of a scheduler of which one is killed."""
+    """bovtrila-network-audit: on processes of its own, and on workers of a scheduler of which one is killed."""
 
     town: ClassVar[town.Town]
     folder: ClassVar[pathlib.Path]
@@ -227,8 +227,8 @@ exec PROGRAM "$@"
         address, workers = self.scheduled(3)
         stand_in = self.stand_in(self.STAND_IN)
         asked = subprocess.Popen(
-            [str(word) for word in (NETWORK / "audit", *self.copies("friday"), *TABLES, "--report", self.report, "--program",
-                                    stand_in, "--scheduler", address)],
+            [str(word) for word in (BIN / "bovtrila-network-audit", *self.copies("friday"), *TABLES, "--report", self.report,
+                                    "--program", stand_in, "--scheduler", address)],
             stdout=subprocess.PIPE, stderr=subprocess.PIPE, text=True)
         self.wait_for(self.room / "worker")
         worker = int((self.room / "worker").read_text())
@@ -261,7 +261,7 @@ exec PROGRAM "$@"
         self.assertRegex(fault, "^its task was lost: KilledWorker: ")
 
     def test_the_page_s_certificates_secure_a_scheduler(self) -> None:
-        """By the commands of docs/NETWORK.md: one who has no certificate gets no answer."""
+        """By the commands of docs/operate/NETWORK.md: one who has no certificate gets no answer."""
         subprocess.run(["openssl", "req", "-x509", "-newkey", "ec", "-pkeyopt", "ec_paramgen_curve:P-256", "-nodes", "-days",
                         "7", "-subj", "/CN=audit", "-keyout", "audit.key", "-out", "audit.crt"], cwd=self.room, check=True,
                        capture_output=True, timeout=TIME)

@@ -1,12 +1,11 @@
-"""What the tests of network/ share: the six servers' journals, the two databases, and how its scripts are run."""
-import atexit
+"""What the tests of a network's commands share: the six servers' journals, the two databases, and how the commands
+are run."""
 import contextlib
 import functools
 import os
 import pathlib
 import shutil
 import subprocess
-import sys
 import tempfile
 import unittest
 from collections.abc import Iterable
@@ -16,14 +15,8 @@ import harness
 import postgres
 import running
 import town
-from harness import EXAMPLE, PROGRAM, REVISED, TOP
-
-sys.path.append(str(TOP / "network"))
-
-import accounts as accounts  # noqa: F401 (the tests take these modules from here)
-import database as database
-import gates as gates  # noqa: F401
-import queries as queries  # noqa: F401
+from bovtrila.network import database
+from harness import BIN, EXAMPLE, PROGRAM, REVISED, TOP
 
 NETWORK = TOP / "network"
 # How many seconds a command may take: some start Dask's processes, beside other tests.
@@ -36,15 +29,16 @@ AT = town.THURSDAY + 4 * town.DAY
 FLIPPED = "cedar-2"
 VALUES = {"first": DAYS[0], "last": DAYS[1], "day_before": town.moment_text(AT - town.DAY)}
 
-# Runs network/load with a call at each step: a statement, each 40 rows of a copy, and both sides of the commit. At step
-# WHERE it is killed, or says so and waits for a line.
+# Runs bovtrila-network-load with a call at each step: a statement, each 40 rows of a copy, and both sides of the commit. At
+# step WHERE it is killed, or says so and waits for a line.
 DRIVER = """
-import importlib.machinery, importlib.util, itertools, os, signal, sys
+import itertools, os, signal, sys
 sys.dont_write_bytecode = True
-sys.path.insert(0, {network!r})
-import database
+sys.path.insert(0, {tools!r})
+from bovtrila.commands import network_load
+from bovtrila.network import database
 where, what, sys.argv[:2] = sys.argv[1], sys.argv[2], []
-sys.argv[0] = {network!r} + "/load"
+sys.argv[0] = "bovtrila-network-load"
 taken = itertools.count(1)
 
 def step(name=None):
@@ -76,26 +70,23 @@ for kind in (database.Postgres, database.Sqlite):
         return old(self, stepped(), *more)
     kind.copy = copy
 
-loader = importlib.machinery.SourceFileLoader("load", {network!r} + "/load")
-module = importlib.util.module_from_spec(importlib.util.spec_from_loader("load", loader))
-loader.exec_module(module)
-module.main()
+network_load.main()
 print("steps", next(taken) - 1)
-""".format(network=str(NETWORK))
+""".format(tools=str(TOP / "tools"))
 
 
 def room(prefix: str) -> pathlib.Path:
     """A folder that goes with the tests."""
     memory = "/dev/shm" if os.access("/dev/shm", os.W_OK) else None
     folder = pathlib.Path(tempfile.mkdtemp(prefix=prefix, dir=memory))
-    atexit.register(shutil.rmtree, folder, ignore_errors=True)
+    harness.AT_END.callback(shutil.rmtree, folder, ignore_errors=True)
     return folder
 
 
 @functools.cache
 def cluster() -> postgres.Cluster:
     made = postgres.Cluster()
-    atexit.register(made.stop)
+    harness.AT_END.callback(made.stop)
     return made
 
 
@@ -132,7 +123,7 @@ def flip(journal: pathlib.Path, place: int = 30) -> None:
 
 
 def words_of(name: str, stage: str, base: str, *more: object) -> list[str]:
-    """The words of network/load for a server's journal."""
+    """The words of bovtrila-network-load for a server's journal."""
     first = 1 + town.CARDS * list(town.SERVERS).index(name)
     journal = network()[1] / name / stage / "station.journal"
     return [str(word) for word in ("--station", town.SERVERS[name], "--server", name, "--first-card", first, "--journal",
@@ -140,8 +131,9 @@ def words_of(name: str, stage: str, base: str, *more: object) -> list[str]:
 
 
 def call(script: str, *words: object, **options: Any) -> subprocess.CompletedProcess[str]:
-    """Runs a script of network/ to its end."""
-    return subprocess.run([NETWORK / script, *map(str, words)], capture_output=True, text=True, timeout=TIME, **options)
+    """Runs a command bovtrila-network-NAME to its end."""
+    return subprocess.run([BIN / f"bovtrila-network-{script}", *map(str, words)], capture_output=True, text=True,
+                          timeout=TIME, **options)
 
 
 def load(name: str, stage: str, base: str, *more: object) -> subprocess.CompletedProcess[str]:
@@ -149,7 +141,7 @@ def load(name: str, stage: str, base: str, *more: object) -> subprocess.Complete
 
 
 def driven(where: str | int, what: str, words: Iterable[str], **options: Any) -> subprocess.Popen[str]:
-    """network/load with a kill or a hold at a step."""
+    """bovtrila-network-load with a kill or a hold at a step."""
     return subprocess.Popen([PYTHON, "-c", DRIVER, str(where), what, *words], stdin=subprocess.PIPE,
                             stdout=subprocess.PIPE, stderr=subprocess.PIPE, text=True, **options)
 

@@ -1,4 +1,4 @@
-"""Tests network/fleet: what is done each day for all servers of the file of the fleet, on an SQLite database."""
+"""Tests bovtrila-network-fleet: what is done each day for all servers of the file of the fleet, on an SQLite database."""
 import contextlib
 import os
 import pathlib
@@ -9,9 +9,9 @@ import tempfile
 from collections.abc import Iterable
 from typing import Any
 
-import database
 import harness
-import model
+from bovtrila import codec, layout, model
+from bovtrila.network import database
 from harness import EXAMPLE, PROGRAM, TOP
 from network_base import TIME, flip
 
@@ -37,7 +37,7 @@ DAY = "2025-01-06"
 
 
 class OfFleet(harness.ProgramTest):
-    """Two servers, with the copies that network/fetch would have fetched."""
+    """Two servers, with the copies that bovtrila-network-fetch would have fetched."""
 
     maxDiff = None
 
@@ -51,19 +51,19 @@ class OfFleet(harness.ProgramTest):
         (self.room / "fleet.toml").write_text(FLEET.format(folder=self.folder))
         shutil.copy(EXAMPLE, self.room / "first.toml")
         self.put("alder", "station.journal", FOUR)
-        self.put("birch", "station.journal", [model.touch(model.ISSUE, 9, 1, 3, MOMENT)])
+        self.put("birch", "station.journal", [codec.touch(codec.ISSUE, 9, 1, 3, MOMENT)])
 
     def put(self, server: str, name: str, frames: Iterable[bytes], moment: int = MOMENT) -> pathlib.Path:
         path = self.folder / "copies" / server / name
         path.parent.mkdir(parents=True, exist_ok=True)
-        path.write_bytes(model.journal_of(frames, 1000, 10, model.Table(EXAMPLE.read_text()).digest, model.VERSION))
+        path.write_bytes(layout.journal_of(frames, 1000, 10, model.Table(EXAMPLE.read_text()).digest, layout.VERSION))
         os.utime(path, (moment, moment))
         return path
 
     def run_act(self, act: str, *words: str) -> tuple[int, str, str]:
         env = {**os.environ, "PATH": f"{self.bin}:{os.environ['PATH']}"}
-        done = subprocess.run([TOP / "network" / "fleet", act, "--fleet", self.room / "fleet.toml", *words], text=True,
-                              capture_output=True, env=env, timeout=TIME)
+        done = subprocess.run([TOP / "bin" / "bovtrila-network-fleet", act, "--fleet", self.room / "fleet.toml", *words],
+                              text=True, capture_output=True, env=env, timeout=TIME)
         self.assertNotIn("Traceback", done.stderr)
         return done.returncode, done.stdout, done.stderr
 
@@ -92,15 +92,15 @@ class Daily(OfFleet):
     def test_the_page_of_a_day(self) -> None:
         self.assertEqual(self.run_act("load")[0], 0)
         status, out, err = self.run_act("report", "--day", DAY)
-        if "matplotlib" in err:
-            self.skipTest("the page of a day: matplotlib isn't installed")
+        if "apt-get install" in err:
+            self.skipTest(f"the page of a day: {err}")
         self.assertEqual((status, out, err), (0, "", ""))
         self.assertIn(f"Monday {DAY}", (self.folder / "pages" / f"{DAY}.html").read_text())
         self.assertEqual(self.run_act("report", "--day", "2025-01-07")[0], 3)
 
     def test_a_journal_that_another_one_follows_is_closed(self) -> None:
         """The order is that of the copies' moments, and not that of the names."""
-        self.put("birch", "a-new.journal", [model.touch(model.ISSUE, 9, 2, 4, MOMENT + 86_400)], MOMENT + 86_400)
+        self.put("birch", "a-new.journal", [codec.touch(codec.ISSUE, 9, 2, 4, MOMENT + 86_400)], MOMENT + 86_400)
         for loaded in (1, 0):
             status, out, err = self.run_act("load")
             self.assertEqual((status, err), (0, ""))
@@ -114,7 +114,8 @@ class Daily(OfFleet):
 
     def test_a_server_that_fails_does_not_stop_the_others(self) -> None:
         shutil.rmtree(self.folder / "copies" / "alder")
-        missing = (f"fleet: alder: {self.folder}/copies/alder has no copy of a journal; fetch it first (network/fetch)\n")
+        missing = (f"fleet: alder: {self.folder}/copies/alder has no copy of a journal; fetch it first "
+                   "(bovtrila-network-fetch)\n")
         self.assertEqual(self.run_act("load"), (1, self.LOADED.splitlines(True)[1], missing))
         self.assertEqual(self.run_act("check")[::2], (1, missing))
         status, out, err = self.run_act("audit")

@@ -1,4 +1,5 @@
-"""Tests of network/export: files of fare days, and a ledger that the real hledger checks. For scripts/tests/network."""
+"""Tests of bovtrila-network-export: files of fare days, and a ledger that the real hledger checks. For
+scripts/tests/test_network.py."""
 import contextlib
 import csv
 import io
@@ -10,13 +11,13 @@ import subprocess
 import unittest
 from typing import ClassVar
 
-import model
-import output
 import town
+from bovtrila import codec
+from bovtrila.network import database, output
 from harness import PROGRAM
 from network_answers import MONDAY, journal_of, loaded, travel
-from network_base import (FLIPPED, TABLES, TIME, BaseTest, DatabaseTest, OnPostgres, OnSqlite, OverBoth,
-                          OverBothWithTown, call, database, load, room)
+from network_base import (FLIPPED, TABLES, TIME, BaseTest, DatabaseTest, OnPostgres, OnSqlite, OverBoth, OverBothWithTown,
+                          call, load, room)
 
 COLUMNS = ("station", "server", "journal", "place", "moment", "day", "gate", "number", "card", "server_card", "act",
            "station_number", "pence", "verdict", "change", "balance", "transfer")
@@ -169,13 +170,13 @@ class Others(OverBoth):
 
     def test_a_closed_journal_is_emptied_into_the_next(self) -> None:
         base, home = self.fresh("ledgerclosed"), room("network-closed-")
-        inside = [model.touch(model.ENTER, 7, 5, 1, 1, MONDAY + 5000)]
+        inside = [codec.touch(codec.ENTER, 7, 5, 1, 1, MONDAY + 5000)]
         loaded("Alder", journal_of(home / "old", travel(7, 1, 1, MONDAY) + inside), base, "--closed")
         later = MONDAY + town.DAY
         # 1650 less the 900 of a journey that wasn't ended.
-        loaded("Alder", journal_of(home / "new", [model.touch(model.ISSUE, 65535, 100000, 1, later),
-                                                  model.touch(model.TOP_UP, 65535, 100001, 1, 750, later),
-                                                  model.touch(model.TOP_UP, 7, 5, 1, 500, later + 60)]), base)
+        loaded("Alder", journal_of(home / "new", [codec.touch(codec.ISSUE, 65535, 100000, 1, later),
+                                                  codec.touch(codec.TOP_UP, 65535, 100001, 1, 750, later),
+                                                  codec.touch(codec.TOP_UP, 7, 5, 1, 500, later + 60)]), base)
         for more in ((), ("--cards",)):
             file = home / f"ledger{len(more)}"
             self.assertEqual(call("export", "ledger", "-o", file, "--database", base, *more).returncode, 0)
@@ -195,7 +196,8 @@ class Others(OverBoth):
         for words in (["days", "--from", "2025-01-06", "--folder", home], ["ledger", "-o", home / "ledger"]):
             done = call("export", *words, "--database", base)
             self.assertEqual((done.returncode, done.stdout), (1, ""))
-            self.assertTrue(done.stderr.startswith("export: the month 2025-01 was detached (network/detach)"), done.stderr)
+            self.assertTrue(done.stderr.startswith("export: the month 2025-01 was detached (bovtrila-network-detach)"),
+                            done.stderr)
         self.assertEqual([path.name for path in home.iterdir()], ["alder"])
         done = call("export", "days", "--from", "2025-02-01", "--folder", home, "--database", base)
         self.assertEqual((done.returncode, done.stdout), (0, "2025-02-01.csv: 0 touches\n"))

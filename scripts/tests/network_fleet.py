@@ -1,23 +1,20 @@
-"""Tests the file of the fleet, and network/fetch with a real rsync: from folders, and over a stand-in for ssh that starts
-the other end on this machine."""
+"""Tests the file of the fleet, and bovtrila-network-fetch with a real rsync: from folders, and over a stand-in for ssh that
+starts the other end on this machine."""
 import os
 import pathlib
 import re
 import shutil
 import signal
 import subprocess
-import sys
 import tempfile
 import time
 import unittest
 
 from harness import TIME, TOP
 
-sys.path.append(str(TOP / "network"))
+from bovtrila.network import fleet_file
 
-import fleet_file
-
-FETCH, PYTHON = TOP / "network" / "fetch", "/usr/bin/python3"
+FETCH, PYTHON = TOP / "bin" / "bovtrila-network-fetch", "/usr/bin/python3"
 OLD, NEW = "station.journal-20260104T033000Z", "station.journal-20260105T033000Z"
 FLEET = """\
 tables = ["first.toml", "prices-2026.toml"]

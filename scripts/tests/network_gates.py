@@ -1,5 +1,5 @@
 """Tests of the table `gates` and of the query `clocks`, which reads the touches of some gates alone. For
-scripts/tests/network."""
+scripts/tests/test_network.py."""
 import collections
 import contextlib
 import hashlib
@@ -8,7 +8,8 @@ from collections.abc import Iterable, Iterator, Sequence
 from typing import ClassVar, TypeAlias
 
 import town
-from network_base import BaseTest, OnPostgres, OnSqlite, OverBoth, database, gates, queries
+from bovtrila.network import database, gates, queries
+from network_base import BaseTest, OnPostgres, OnSqlite, OverBoth
 
 # A touch's moment, its gate, and whether it is a revision.
 Touch: TypeAlias = tuple[int, int, bool]

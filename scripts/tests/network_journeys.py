@@ -1,5 +1,5 @@
 """Tests of the journeys in the network's database: worked examples, and generated cards beside the reference model. For
-scripts/tests/network."""
+scripts/tests/test_network.py."""
 import contextlib
 import datetime
 import hashlib
@@ -9,14 +9,15 @@ import random
 import subprocess
 import time
 import unittest
+import unittest.mock
 from collections.abc import Iterator, Sequence
 
-import fares
-import model
 import network_travel
 import town
+from bovtrila import codec, layout, model
+from bovtrila.network import database, fares
 from harness import EXAMPLE, PROGRAM
-from network_base import TABLES, BaseTest, OnPostgres, OnSqlite, OverBoth, call, database, room
+from network_base import TABLES, BaseTest, OnPostgres, OnSqlite, OverBoth, call, room
 
 ROWS = """
 SELECT place, kind, server_card, day, began, ended, origin, destination, legs, changes, band, fare, charged
@@ -24,8 +25,8 @@ FROM travel WHERE server = 'Alder' ORDER BY place
 """
 # Monday 2025-01-06 at 00:00 UTC.
 MONDAY = 1736121600
-IN, OUT = model.ENTER, model.LEAVE
-# The touches of cards by the clock of that Monday, and the rows that follow from docs/FARES.md, "Worked examples".
+IN, OUT = codec.ENTER, codec.LEAVE
+# The touches of cards by the clock of that Monday, and the rows that follow from docs/reference/FARES.md, "Worked examples".
 WORKED = {
     # Three journeys reach a cap of 850.
     1: [("06:40", IN, 2), ("07:05", OUT, 1), ("07:40", IN, 2), ("08:05", OUT, 1), ("08:40", IN, 2), ("09:05", OUT, 1)],
@@ -58,10 +59,10 @@ def worked_frames() -> list[bytes]:
     """The touches of the worked examples, each card with 5000 pence."""
     frames: list[bytes] = []
     for card, touches in WORKED.items():
-        acts = [(model.ISSUE, ()), (model.TOP_UP, (5000,)), *((kind, (station,)) for _, kind, station in touches)]
+        acts = [(codec.ISSUE, ()), (codec.TOP_UP, (5000,)), *((kind, (station,)) for _, kind, station in touches)]
         moments = [0, 0, *(seconds(clock) for clock, *_ in touches)]
         for (kind, act), moment in zip(acts, moments):
-            frames.append(model.touch(kind, 7, len(frames) + 1, card, *act, MONDAY + moment))
+            frames.append(codec.touch(kind, 7, len(frames) + 1, card, *act, MONDAY + moment))
     return frames
 
 
@@ -77,7 +78,7 @@ class Journeys(OverBoth):
 
     def test_the_worked_examples(self) -> None:
         base, journal = self.fresh("worked"), room("network-worked-") / "alder"
-        journal.write_bytes(model.journal_of(worked_frames(), 1000, 10, model.Table(EXAMPLE.read_text()).digest))
+        journal.write_bytes(layout.journal_of(worked_frames(), 1000, 10, model.Table(EXAMPLE.read_text()).digest))
         done = self.loaded(base, journal)
         self.assertEqual((done.returncode, done.stderr), (0, ""))
         found = [(row.kind, row.card, row.began and row.began[11:-1], row.ended and row.ended[11:-1], *row[6:])
@@ -142,7 +143,7 @@ class Journeys(OverBoth):
         text = EXAMPLE.read_text().replace("minutes = 10}", "minutes = 10,}")
         (home / "newer.toml").write_text(text)
         digest = hashlib.sha256(text.encode()).digest()
-        (home / "alder").write_bytes(model.journal_of(worked_frames(), 1000, 10, digest))
+        (home / "alder").write_bytes(layout.journal_of(worked_frames(), 1000, 10, digest))
         done = self.loaded(base, home / "alder", home / "newer.toml")
         self.assertEqual((done.returncode, done.stdout), (0, "Alder alder: 27 touches loaded, 27 in all\n"))
         self.assertEqual(done.stderr, f"load: {home}/newer.toml: note: Python's module tomllib can't read this table: the "
@@ -154,7 +155,7 @@ class Journeys(OverBoth):
 
     def test_a_changed_journey_is_found_by_a_check(self) -> None:
         base, journal = self.fresh("changed_journeys"), room("network-changed-") / "alder"
-        journal.write_bytes(model.journal_of(worked_frames(), 1000, 10, model.Table(EXAMPLE.read_text()).digest))
+        journal.write_bytes(layout.journal_of(worked_frames(), 1000, 10, model.Table(EXAMPLE.read_text()).digest))
         self.loaded(base, journal)
         place = JOURNEYS.index(("journey", 1, "06:40:00", "07:05:00", 2, 1, 1, None, "peak", 350, 350)) + 2
         of, breach = f"WHERE place = {place}", f"Alder,Alder,alder,{place},the journey is not that of its touches"
@@ -207,7 +208,9 @@ class Zones(unittest.TestCase):
 
     def test_a_clock_is_that_of_its_rule(self) -> None:
         self.addCleanup(time.tzset)
-        self.addCleanup(os.environ.__setitem__, "TZ", os.environ.get("TZ", "UTC0"))
+        environment = unittest.mock.patch.dict(os.environ)
+        environment.start()
+        self.addCleanup(environment.stop)
         draw = random.Random(3)
         for rule in ("GMT0BST,M3.5.0/1,M10.5.0", "GMT0BST,M3.5.0/1,M10.5.0/5", "STD0DST-6,J6/12,J7/6", "<+0330>-3:30",
                      "UTC0",

@@ -1,19 +1,21 @@
-"""Tests of network/load: once, again, killed, two at once, and of a journal that was changed. For scripts/tests/network."""
+"""Tests of bovtrila-network-load: once, again, killed, two at once, and of a journal that was changed. For
+scripts/tests/test_network.py."""
 import contextlib
 import pathlib
 import signal
 import subprocess
 import time
 
-import model
 import postgres
+from bovtrila import codec, layout, model
+from bovtrila.network import database
 from harness import EXAMPLE, PROGRAM, REVISED
 from network_base import (FLIPPED, NETWORK, TABLES, TIME, DatabaseTest, OnPostgres, OnSqlite, OverBothWithTown, call,
-                          database, driven, everything, load, words_of)
+                          driven, everything, load, words_of)
 
 
 class Loads(OverBothWithTown):
-    """network/load: once, again, killed at each step, two at once, and of a journal that was changed."""
+    """bovtrila-network-load: once, again, killed at each step, two at once, and of a journal that was changed."""
 
     def waits(self, base: str, second: subprocess.Popen[str]) -> None:
         """Until the second load waits for another one."""
@@ -97,8 +99,8 @@ class Loads(OverBothWithTown):
 
     def test_open_slots_behind_the_end_are_noted(self) -> None:
         """The mark of the fourth of twelve touches was lost."""
-        frames = [model.touch(model.ISSUE, 7, number, number, 60 * number) for number in range(1, 13)]
-        content = bytearray(model.journal_of(frames, 1000, 20, model.Table(EXAMPLE.read_text()).digest))
+        frames = [codec.touch(codec.ISSUE, 7, number, number, 60 * number) for number in range(1, 13)]
+        content = bytearray(layout.journal_of(frames, 1000, 20, model.Table(EXAMPLE.read_text()).digest))
         content[64 + 64 * 3] = 0
         journal = self.folder / "behind.journal"
         journal.write_bytes(content)
@@ -111,9 +113,9 @@ class Loads(OverBothWithTown):
     def test_a_revision_may_name_any_day(self) -> None:
         base, table = self.fresh("days"), model.Table(REVISED.read_text())
         days = [20095, -2**31, -1, 0, -719_162, -719_163, -719_528, -719_529, -4_371_222, 2_932_896, 2_932_897, 2**31 - 1]
-        frames = [model.touch(model.REVISE, 9, number, 0, table.digest, day, 7 * number) for number, day in enumerate(days)]
+        frames = [codec.touch(codec.REVISE, 9, number, 0, table.digest, day, 7 * number) for number, day in enumerate(days)]
         journal = self.folder / "days.journal"
-        journal.write_bytes(model.journal_of(frames, 1000, 10, model.Table(EXAMPLE.read_text()).digest))
+        journal.write_bytes(layout.journal_of(frames, 1000, 10, model.Table(EXAMPLE.read_text()).digest))
         done = call("load", "--station", "Alder", "--journal", journal, "--database", base, "--program", PROGRAM, *TABLES)
         self.assertEqual((done.returncode, done.stderr), (0, ""))
         self.assertEqual(self.asked(base, "SELECT first_day FROM revisions ORDER BY place"), [(day,) for day in days])

@@ -9,13 +9,12 @@ import time
 import unittest
 from unittest import mock
 
-import model
+from bovtrila import codec
 from harness import TOP
 from network_base import flip
 from network_daily import MOMENT, OfFleet
 
-import fleet_file
-import fleet_metrics
+from bovtrila.network import fleet_file, fleet_metrics
 
 ALERTS, CASES = TOP / "packaging" / "network" / "alerts.yml", TOP / "packaging" / "network" / "alerts-test.yml"
 SEAL = "bovtrila_network_seal_changed"
@@ -67,7 +66,7 @@ class Metrics(OfFleet):
         self.assertEqual(self.done("audit", 0), {"alder": True, "birch": True})
         self.earlier("audit")
         flip(self.folder / "copies" / "alder" / "station.journal", 1)
-        self.put("birch", "station.journal", [model.touch(model.ISSUE, 9, 7, 5, MOMENT)])
+        self.put("birch", "station.journal", [codec.touch(codec.ISSUE, 9, 7, 5, MOMENT)])
         # The database has none of birch's new journal, so that isn't sound either.
         self.assertEqual(self.done("audit", 1), {"alder": False, "birch": False})
         self.assertEqual({server: value for (name, server), value in self.values("audit").items() if name == SEAL},
@@ -76,7 +75,7 @@ class Metrics(OfFleet):
     def test_another_journal_is_a_seal_that_changed_until_the_next_audit(self) -> None:
         self.run_act("load")
         self.run_act("audit")
-        self.put("birch", "next.journal", [model.touch(model.ISSUE, 9, 7, 5, MOMENT)], MOMENT + 60)
+        self.put("birch", "next.journal", [codec.touch(codec.ISSUE, 9, 7, 5, MOMENT)], MOMENT + 60)
         self.run_act("load")
         for status, changed in ((3, 1), (0, 0)):
             self.assertEqual(self.done("audit", status), {"alder": True, "birch": True})
@@ -145,6 +144,6 @@ class Alerts(unittest.TestCase):
     def test_the_rules_have_the_metrics_that_are_written(self) -> None:
         written = {name for metrics in fleet_metrics.METRICS.values() for name in metrics}
         self.assertEqual(set(re.findall(r"\bbovtrila_network_\w+", ALERTS.read_text())), written)
-        page = (TOP / "docs" / "NETWORK.md").read_text()
+        page = (TOP / "docs" / "operate" / "NETWORK.md").read_text()
         for name in {*written, *re.findall(r"- alert: (\w+)", ALERTS.read_text())}:
             self.assertIn(f"`{name}`", page)

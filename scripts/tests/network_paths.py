@@ -1,14 +1,14 @@
-"""Tests that the commands of network/ refuse pipes, devices and folders at once, in the words of docs/FAULTS.md. For
-scripts/tests/network."""
+"""Tests that the commands bovtrila-network-NAME refuse pipes, devices and folders at once, in the words of
+docs/reference/FAULTS.md. For scripts/tests/test_network.py."""
 import os
 import pathlib
 import subprocess
 from collections.abc import Sequence
 
 import harness
-import model
-from harness import EXAMPLE, PROGRAM, TOP
-from network_base import NETWORK, TABLES, room
+from bovtrila import layout, model
+from harness import BIN, EXAMPLE, PROGRAM, TOP
+from network_base import TABLES, room
 
 # How many seconds a command may take. One that opens a pipe without a writer never ends.
 PATIENCE = 60
@@ -24,17 +24,17 @@ class Paths(harness.ProgramTest):
         os.mkfifo(self.room / "pipe")
         (self.room / "folder").mkdir()
         table = model.Table(EXAMPLE.read_text())
-        (self.room / "journal").write_bytes(model.journal_of([], 10, 10, table.digest))
+        (self.room / "journal").write_bytes(layout.journal_of([], 10, 10, table.digest))
 
     def said(self, script: str, *words: object) -> tuple[int, str, str]:
         """The status of a command in the folder, and its output."""
-        done = subprocess.run([NETWORK / script, *map(str, words)], capture_output=True, text=True, timeout=PATIENCE,
-                              cwd=self.room)
+        done = subprocess.run([BIN / f"bovtrila-network-{script}", *map(str, words)], capture_output=True, text=True,
+                              timeout=PATIENCE, cwd=self.room)
         self.assertNotIn("Traceback", done.stderr)
         return done.returncode, done.stdout, done.stderr
 
     def test_the_words_are_those_of_the_page(self) -> None:
-        page = (TOP / "docs" / "FAULTS.md").read_text()
+        page = (TOP / "docs" / "reference" / "FAULTS.md").read_text()
         self.assertIn("| `is a folder`, `is a device or a pipe` |", page)
 
     def test_a_load_refuses_them(self) -> None:

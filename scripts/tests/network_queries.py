@@ -1,4 +1,5 @@
-"""Tests of the queries over a loaded network, of its constraints, and of PostgreSQL's plans. For scripts/tests/network."""
+"""Tests of the queries over a loaded network, of its constraints, and of PostgreSQL's plans. For
+scripts/tests/test_network.py."""
 import contextlib
 import re
 import signal
@@ -8,12 +9,13 @@ from collections.abc import Iterable, Iterator
 from typing import Any, ClassVar
 from unittest import mock
 
-import model
 import network_travel
 import town
+from bovtrila import model
+from bovtrila.network import accounts, database, queries
 from harness import EXAMPLE
-from network_base import (AT, DAYS, FLIPPED, NETWORK, TIME, VALUES, DatabaseTest, OnPostgres, OnSqlite,
-                          OverBothWithTown, accounts, call, database, driven, everything, load, queries, words_of)
+from network_base import (AT, DAYS, FLIPPED, NETWORK, TIME, VALUES, DatabaseTest, OnPostgres, OnSqlite, OverBothWithTown,
+                          call, driven, everything, load, words_of)
 
 TABLE = model.Table(EXAMPLE.read_text())
 
@@ -255,7 +257,7 @@ class PostgresQueries(Queries, OnPostgres, DatabaseTest):
 
 
 class Words(unittest.TestCase):
-    """What network/query says of wrong words and of no database."""
+    """What bovtrila-network-query says of wrong words and of no database."""
 
     def test_a_wrong_command_line_is_told(self) -> None:
         asked: list[tuple[list[str], str]] = [([], "name a query, or --list"), (["held"], "held needs --card"),

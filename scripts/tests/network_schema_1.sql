@@ -1,12 +1,12 @@
--- The touches of a network's servers with their replies, as their journals have them (docs/NETWORK.md). The journals
+-- The touches of a network's servers with their replies, as their journals have them (docs/operate/NETWORK.md). The journals
 -- stay the truth: whatever stands here can be dropped and loaded again.
 --
--- This is PostgreSQL's text (psql -f network/schema.sql). network/load gives SQLite the same one, without what stands
+-- This is PostgreSQL's text (psql -f network/schema.sql). bovtrila-network-load gives SQLite the same one, without what stands
 -- between the marks pg and end, and with what the comments that begin with sqlite have.
 
 /*pg*/
 CREATE TYPE act AS ENUM ('in', 'out', 'top-up', 'issue', 'revision');
--- The verdicts of docs/FARES.md, in the order of their codes.
+-- The verdicts of docs/reference/FARES.md, in the order of their codes.
 CREATE TYPE verdict AS ENUM (
     'Entered', 'EnteredContinued', 'EnteredOverOpen', 'Exited', 'ExitedUnstarted', 'ExitedLate', 'ToppedUp', 'Issued',
     'Revised', 'UnknownCard', 'AlreadyIssued', 'UnknownStation', 'Backwards', 'LowBalance', 'BadAmount', 'OverLimit',
@@ -32,7 +32,7 @@ CREATE TABLE fare_tables (
 );
 
 -- digest is that of the first fare table, touches how many were loaded, and seal the digest of their bytes and the
--- header's (docs/AUDIT.md, "A seal"). A closed journal is one that another follows: its cards were carried over there.
+-- header's (docs/audit/AUDIT.md, "A seal"). A closed journal is one that another follows: its cards were carried over there.
 CREATE TABLE journals (
     journal integer /*pg*/ GENERATED ALWAYS AS IDENTITY /*end*/ PRIMARY KEY,
     server text NOT NULL REFERENCES servers,
@@ -100,7 +100,7 @@ CREATE TABLE touches (
     /*sqlite , PRIMARY KEY (journal, place), UNIQUE (journal, gate, number) */
 ) /*pg*/ PARTITION BY RANGE (day) /*end*/;
 
--- For the queries journeys, refusals, maxima, clocks and inside, and for network/report: the touches of some fare days.
+-- For the queries journeys, refusals, maxima, clocks and inside, and for bovtrila-network-report: the touches of some fare days.
 CREATE INDEX touches_day ON touches (day);
 -- For the queries held and maxima: the touches of a card in their order.
 CREATE INDEX touches_card ON touches (journal, card, place);

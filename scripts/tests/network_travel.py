@@ -1,6 +1,7 @@
-"""The journeys that the reference model makes of the touches of cards, and generated cards: for scripts/tests/network.
+"""The journeys that the reference model makes of the touches of cards, and generated cards: for
+scripts/tests/test_network.py.
 
-The rows are made from the taps of scripts/model.py and its rules alone: a journey's fare, and what the day's charge with it
+The rows are made from the taps of bovtrila.model and its rules alone: a journey's fare, and what the day's charge with it
 is more than without it.
 """
 import collections
@@ -11,8 +12,8 @@ import struct
 from collections.abc import Collection, Sequence
 from typing import Any, NamedTuple
 
-import model
 import town
+from bovtrila import codec, layout, model
 from harness import EXAMPLE, REVISED
 
 
@@ -42,9 +43,9 @@ def places_of(station: model.Station, front: int) -> dict[int, list[int]]:
     """The places of each card's accepted touches in and out, among the first ones of a history."""
     places: dict[int, list[int]] = collections.defaultdict(list)
     for place, frame in enumerate(station.history[:front]):
-        kind, gate, number, card, *_ = struct.unpack(model.FORMS[frame[2]], frame[2:])
+        kind, gate, number, card, *_ = struct.unpack(codec.FORMS[frame[2]], frame[2:])
         answer = station.named[gate, number][1]
-        if kind in (model.ENTER, model.LEAVE) and answer[9] < 20:
+        if kind in (codec.ENTER, codec.LEAVE) and answer[9] < 20:
             places[card].append(place)
     return places
 
@@ -198,13 +199,13 @@ class Generated:
         self.number = 0
         self.place: dict[int, int] = {}
         for card in range(1, self.CARDS + 1):
-            self.send(model.ISSUE, card, self.BEGINS[0] - 9000)
+            self.send(codec.ISSUE, card, self.BEGINS[0] - 9000)
         for begins, turn in zip(self.BEGINS, (1, 2)):
             self.travel(begins, turn)
 
     def send(self, kind: int, card: int, *act: int | bytes) -> int:
         self.number += 1
-        answer = self.station.answer(model.touch(kind, 7, self.number, card, *act))
+        answer = self.station.answer(codec.touch(kind, 7, self.number, card, *act))
         return answer[9]
 
     def travel(self, begins: int, turn: int) -> None:
@@ -217,7 +218,7 @@ class Generated:
             while revised < 2 and self.station.schedule.stamp(moment).day > day + revised:
                 revised += 1
                 table = self.digests[turn * revised % 3]
-                self.send(model.REVISE, 0, table, day + revised, moment)
+                self.send(codec.REVISE, 0, table, day + revised, moment)
             self.touch(card, moment)
             quiet = self.random.random() < 0.06
             moment += self.random.randrange(20_000, 40_000) if quiet else self.random.choice(self.GAPS)
@@ -227,17 +228,17 @@ class Generated:
     def touch(self, card: int, moment: int) -> None:
         """A touch in or out, mostly the one that a passenger makes, at a station that is near the last one."""
         if self.station.cards[card].balance() < 2500:
-            self.send(model.TOP_UP, card, 5000, moment)
+            self.send(codec.TOP_UP, card, 5000, moment)
         inside = self.station.cards[card].state() == 2
         near = (1, 4, 1, 4, 2, 3, 5) if inside else self.NEAR.get(self.place.get(card, 0), (1, 2, 3, 4, 5))
         station = self.random.choice(near)
         leaves = inside != (self.random.random() < 0.08)
         self.place[card] = station
-        self.send(model.LEAVE if leaves else model.ENTER, card, station, moment)
+        self.send(codec.LEAVE if leaves else codec.ENTER, card, station, moment)
 
     def content(self, front: int) -> bytes:
         """The journal's file after so many touches."""
-        return model.journal_of(self.station.history[:front], 100_000, self.CARDS, self.digests[0])
+        return layout.journal_of(self.station.history[:front], 100_000, self.CARDS, self.digests[0])
 
 
 @functools.cache

@@ -1,5 +1,5 @@
 """Tests of the database's version and its migrations, of the roles, of how a database is named, and of detached months. For
-scripts/tests/network."""
+scripts/tests/test_network.py."""
 import contextlib
 import os
 import pathlib
@@ -8,8 +8,9 @@ from typing import Any
 
 import postgres
 import town
-from network_base import (NETWORK, TIME, DatabaseTest, OnPostgres, OnSqlite, OverBothWithTown, call, cluster, database,
-                          everything, load, room)
+from bovtrila.network import database
+from network_base import (NETWORK, TIME, DatabaseTest, OnPostgres, OnSqlite, OverBothWithTown, call, cluster, everything,
+                          load, room)
 
 # The files that make the tables of each earlier version.
 HERE = pathlib.Path(__file__).parent
@@ -81,7 +82,8 @@ class Migrations(OverBothWithTown):
         old = self.earlier(version, f"old{version}", new)
         done = load("alder-1", "end", old)
         self.assertEqual((done.returncode, done.stdout), (1, ""))
-        self.assertIn(f"the database is of version {version}, and these programs need 5; migrate it: network/migrate",
+        self.assertIn(f"the database is of version {version}, and these programs need 5; migrate it: "
+                      "bovtrila-network-migrate",
                       done.stderr)
         done = call("query", "holdings", "--database", old)
         self.assertEqual((done.returncode, done.stdout), (1, ""))

@@ -10,7 +10,7 @@ DROP VIEW IF EXISTS history;
 /*pg*/
 -- Makes the partition of the month of a day, where there is none. Each has keys of its own: a place, and a gate's number,
 -- stand once in it. A key over all partitions would have to name the day as well, and so promise neither; the view
--- network/check finds what stands once in each of two months. Touches of the month that are in touches_other move there.
+-- bovtrila-network-check finds what stands once in each of two months. Touches of the month that are in touches_other move there.
 -- Attaching locks touches_other, so a load commits the new months before it does anything else. The function has the rights
 -- of its owner: whoever loads needn't own the tables (network/roles.sql).
 CREATE OR REPLACE FUNCTION make_month(a_day date) RETURNS void LANGUAGE plpgsql SECURITY DEFINER

@@ -1,5 +1,4 @@
 """What the tests of the packages share: the packages, made twice and unpacked, and the checks of manual pages."""
-import atexit
 import concurrent.futures
 import functools
 import gzip
@@ -12,6 +11,7 @@ import unittest
 
 import debs
 import harness
+import installed
 import script_help
 
 
@@ -20,7 +20,7 @@ def made_twice() -> tuple[pathlib.Path, tuple[pathlib.Path, str], tuple[pathlib.
     """The folder where the packages of this tree are made twice, side by side, and unpacked; the station's ones, each with
     what was told. The second ones are made by somebody with another clock, another language and other rights for files."""
     room = tempfile.TemporaryDirectory(prefix="packaged-")
-    atexit.register(room.cleanup)
+    harness.AT_END.callback(room.cleanup)
     folder = pathlib.Path(room.name)
     with concurrent.futures.ThreadPoolExecutor() as side_by_side:
         first, second = [making.result() for making in (
@@ -44,6 +44,7 @@ class Package(harness.ProgramTest):
     gate: script_help.Help
     share: pathlib.Path
     pages: pathlib.Path
+    python: pathlib.Path
 
     @classmethod
     def setUpClass(cls) -> None:
@@ -54,6 +55,12 @@ class Package(harness.ProgramTest):
         cls.tree, cls.network = cls.room / "tree", cls.room / "network"
         cls.help, cls.gate = (script_help.of(cls.tree / "usr" / "bin" / name) for name in ("bovtrila", "gate_send"))
         cls.share, cls.pages = cls.tree / "usr" / "share" / "bovtrila", cls.tree / "usr" / "share" / "doc" / "bovtrila"
+        cls.python = cls.tree / installed.PYTHON
+
+    @staticmethod
+    def env(tree: pathlib.Path) -> dict[str, str]:
+        """The environment of a command of an unpacked package: the system's programs, and the package's own modules."""
+        return {"PATH": "/usr/bin:/bin", "PYTHONPATH": str(tree / installed.PYTHON)}
 
     def check_manual(self, folder: pathlib.Path) -> None:
         """man and mandoc have nothing to say of the manual pages of a folder."""

@@ -8,17 +8,15 @@ from typing import ClassVar
 
 import debs
 import installed
-import model
 import program
+from bovtrila import layout, model
 from harness import EXAMPLE, TIME, TOP
 from packaged_base import Package
 
-sys.path.append(str(TOP / "network"))
-
-import fleet_file
+from bovtrila.network import fleet_file
 
 TOOLS = ("audit", "check", "detach", "export", "fetch", "fleet", "load", "migrate", "query", "report")
-ANSWERS = (TOP / "docs" / "NETWORK.md").read_text()
+ANSWERS = (TOP / "docs" / "operate" / "NETWORK.md").read_text()
 
 
 class NetworkPackage(Package):
@@ -46,7 +44,7 @@ class NetworkPackage(Package):
     def called(self, name: str, *words: object, folder: str | pathlib.Path = "/") -> subprocess.CompletedProcess[str]:
         """How a tool ends that is called by its installed name, with the programs of the system alone on the path."""
         return subprocess.run([self.both / "usr" / "bin" / f"bovtrila-network-{name}", *map(str, words)], cwd=folder,
-                              text=True, capture_output=True, env={"PATH": "/usr/bin:/bin"}, timeout=TIME)
+                              text=True, capture_output=True, env=self.env(self.both), timeout=TIME)
 
     def test_two_runs_make_the_same_bytes(self) -> None:
         self.assertEqual(self.file.read_bytes(), debs.of_network(self.again).read_bytes())
@@ -61,18 +59,16 @@ class NetworkPackage(Package):
         """Modules that are neither Python's nor the tools' own, and Debian's package of each."""
         packages = {"psycopg2": "Depends", "distributed": "Suggests", "dask": "Suggests"}
         named = {"psycopg2": "python3-psycopg2", "distributed": "python3-distributed", "dask": "python3-distributed"}
-        folder = self.network / "usr" / "share" / "bovtrila" / "network"
-        # The page of a day takes its sections from the station's package.
-        station = self.tree / "usr" / "share" / "bovtrila" / "scripts"
+        # They import the station's modules too.
         self.assertRegex(self.field("Depends"), r"\bbovtrila \(= ")
-        own = {path.stem for path in (*folder.glob("*.py"), *station.glob("day_*.py"))}
-        imported = {name for path in folder.iterdir() if path.is_file() and path.suffix != ".sql"
+        imported = {name for path in (self.network / installed.PYTHON).rglob("*.py")
                     for name in re.findall(r"^ *(?:import|from) (\w+)", path.read_text(), re.M)}
-        self.assertEqual(imported - own - sys.stdlib_module_names, set(packages))
+        self.assertEqual(imported - {"bovtrila"} - sys.stdlib_module_names, set(packages))
         for name, kind in packages.items():
             self.assertIn(named[name], self.field(kind))
-        # The charts of the page of a day, and the programs that fetch copies.
+        # The charts and the templates of the page of a day, and the programs that fetch copies.
         self.assertIn("python3-matplotlib", self.field("Recommends"))
+        self.assertIn("python3-jinja2", self.field("Recommends"))
         self.assertIn("openssh-client", self.field("Recommends"))
         self.assertRegex(self.field("Depends"), r"\brsync\b")
 
@@ -88,12 +84,11 @@ class NetworkPackage(Package):
             self.assertTrue((self.network / place).is_file(), place)
         self.assertEqual(installed.commands(installed.NETWORK), [f"network-{name}" for name in TOOLS])
         for name in TOOLS:
-            link = self.network / "usr" / "bin" / f"bovtrila-network-{name}"
-            self.assertEqual(link.resolve(), self.network / "usr" / "share" / "bovtrila" / "network" / name)
+            command, own = (folder / f"bovtrila-network-{name}" for folder in (self.network / "usr" / "bin", TOP / "bin"))
+            self.assertEqual(command.read_bytes(), own.read_bytes())
         # Each file of network/ is installed.
         have = {path.name for path in (self.network / "usr" / "share" / "bovtrila" / "network").rglob("*")}
-        self.assertEqual({path.name for path in (TOP / "network").rglob("*") if path.suffix != ".pyc"} - have,
-                         {"__pycache__"} & {path.name for path in (TOP / "network").iterdir()})
+        self.assertEqual({path.name for path in (TOP / "network").rglob("*")} - have, set())
 
     def test_each_tool_prints_its_help_by_its_name(self) -> None:
         for name in TOOLS:
@@ -101,7 +96,7 @@ class NetworkPackage(Package):
                 done = self.called(name, "--help")
                 self.assertEqual((done.returncode, done.stderr), (0, ""))
                 self.assertTrue(done.stdout.startswith(f"usage: bovtrila-network-{name} "), done.stdout)
-                self.assertNotRegex(done.stdout, r"(?<![\w/-])(?:network|scripts|docs)/[a-zA-Z]")
+                self.assertNotRegex(done.stdout, r"(?<![\w/-])(?:network|packaging|scripts|tools|docs)/[a-zA-Z]")
 
     def test_the_first_query_of_the_page(self) -> None:
         """The page's loads, query and audit of a journal that the installed program finds by itself."""
@@ -113,7 +108,7 @@ class NetworkPackage(Package):
         done = self.called("load", "--station", "Alder", "--journal", "alder/station.journal", "--table", table, folder=home)
         self.assertEqual((done.returncode, done.stdout, done.stderr),
                          (0, "Alder station.journal: 4 touches loaded, 4 in all\n", ""))
-        held = re.search(r"^\$ network/query held --card 1\n((?:.+\n){2})", ANSWERS, re.M)
+        held = re.search(r"^\$ bovtrila-network-query held --card 1\n((?:.+\n){2})", ANSWERS, re.M)
         sound = re.search(r"^alder: sound, .*$", ANSWERS, re.M)
         assert held and sound, "the page shows both"
         self.assertEqual(self.called("query", "held", "--card", 1, folder=home).stdout.splitlines(), held[1].splitlines())
@@ -129,7 +124,7 @@ class NetworkPackage(Package):
         journal_of_four(self.room / "lonely.journal")
         done = subprocess.run([alone / "usr" / "bin" / "bovtrila-network-load", "--station", "Alder", "--journal",
                                self.room / "lonely.journal", "--table", EXAMPLE, "--database", self.room / "lonely.db"],
-                              text=True, capture_output=True, timeout=TIME)
+                              text=True, capture_output=True, env=self.env(alone), timeout=TIME)
         self.assertEqual((done.returncode, done.stderr), (1, f"load: {alone}/usr/bin/bovtrila: No such file or directory\n"))
 
     def test_what_the_page_names_is_there(self) -> None:
@@ -138,7 +133,7 @@ class NetworkPackage(Package):
         for named in set(re.findall(r"(/usr/share/[\w./-]*\w)", text)):
             self.assertTrue((self.both / named.lstrip("/")).exists(), named)
         for named in set(re.findall(r"`(bovtrila-[a-z-]+)[` ]", text)):
-            there = ((self.both / "usr" / "bin" / named).is_symlink()
+            there = ((self.both / "usr" / "bin" / named).is_file()
                      or (self.both / "lib" / "systemd" / "system" / f"{named}.service").is_file()
                      or named == installed.NETWORK)
             self.assertTrue(there, named)
@@ -153,7 +148,7 @@ class NetworkPackage(Package):
             started = re.search(r"^ExecStart=(/usr/bin/\S+)", text, re.M)
             assert started, name
             command = started[1]
-            self.assertTrue((self.network / command.lstrip("/")).is_symlink(), command)
+            self.assertTrue((self.network / command.lstrip("/")).is_file(), command)
             for page, section in re.findall(r"man:(\S+)\((\d)\)", text):
                 manual = self.network / "usr" / "share" / "man" / f"man{section}" / f"{page}.{section}.gz"
                 self.assertTrue(manual.is_file(), page)
@@ -188,4 +183,4 @@ class NetworkPackage(Package):
 def journal_of_four(path: pathlib.Path) -> None:
     """A journal of the four touches of the page's example."""
     four = [bytes.fromhex(line) for line in (TOP / "crates" / "tap_server" / "stdin").read_text().split()]
-    path.write_bytes(model.journal_of(four, 1000, 10, model.Table(EXAMPLE.read_text()).digest, model.VERSION))
+    path.write_bytes(layout.journal_of(four, 1000, 10, model.Table(EXAMPLE.read_text()).digest, layout.VERSION))

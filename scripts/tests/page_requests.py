@@ -1,13 +1,13 @@
-"""The limits of scripts/web_server.py: what it refuses, and what hostile requests can't do."""
+"""The limits of tools/bovtrila/web/server.py: what it refuses, and what hostile requests can't do."""
 import socket
 import threading
 import time
 import unittest
 import unittest.mock
 
-import web_server
+from bovtrila.web import server as web_server
+from bovtrila.web.server import Answer
 from harness import TIME
-from web_server import Answer
 
 
 class Requests(unittest.TestCase):

@@ -1,4 +1,4 @@
-"""The pages of scripts/exporter, made from facts: their numbers, their warnings, and that each value is escaped."""
+"""The pages of bovtrila-exporter, made from facts: their numbers, their warnings, and that each value is escaped."""
 import dataclasses
 import datetime
 import pathlib
@@ -12,25 +12,22 @@ import zoneinfo
 from collections.abc import Mapping, Sequence
 from typing import Any
 
-import model
 import paged
-import web_facts
-import web_history
-import web_view
-import wire
-from day_charts import Pence
-from day_page import Stations
+from bovtrila import codec, layout, overview, table_file, wire
+from bovtrila.day_charts import Pence
+from bovtrila.day_page import Stations
+from bovtrila.history_rows import Row
+from bovtrila.journal_view import Journal, Tables
+from bovtrila.web import facts as web_facts, history as web_history, view as web_view
+from bovtrila.web.facts import Gate, Now, Since, Slots
+from bovtrila.web.history import Day, Touches
 from harness import EXAMPLE, TOP
-from history_rows import Row
-from journal_view import Journal, Tables
-from web_facts import Gate, Now, Since, Slots
-from web_history import Day, Statement
 
 # Monday 2025-01-06 at 04:30, when a fare day begins in London, and half past two on its afternoon.
 BEGIN, NOW = 1736137800, 1736173800
 LONDON = zoneinfo.ZoneInfo("Europe/London")
 HOSTILE = "<script>alert(1)</script>\"'&--><img src=x onerror=alert(1)>"
-FOUND = {**web_facts.status.nothing(NOW), "server": "bovtrila", "address": "127.0.0.1:4014", "answers": True, "up": True,
+FOUND = {**overview.nothing(NOW), "server": "bovtrila", "address": "127.0.0.1:4014", "answers": True, "up": True,
          "touches": 4321, "room": 95679, "capacity": 100000, "cards": 1000, "cards_inside": 17, "days_until_full": 22.2,
          "full_on": "2025-01-28"}
 
@@ -85,8 +82,8 @@ class Views(unittest.TestCase):
         self.assertNotIn("<script", page)
         self.assertGreater(page.count("&lt;script&gt;"), 9)
         row = Row(0, NOW, "2025-01-06", 7, 1, 1, "in", "2", "", HOSTILE, 0, 0)
-        statement = Statement(1, [row], 2, Pence(0), Pence(0), Pence(0), True)
-        card = pages({2: HOSTILE}).card(HOSTILE, statement, None, HOSTILE)
+        touches = Touches(1, [row], 2, Pence(0), Pence(0), Pence(0), True)
+        card = pages({2: HOSTILE}).card("/touches", HOSTILE, touches, None, HOSTILE)
         self.assertNotIn("<script", card)
         self.assertEqual(card.count("&lt;script&gt;"), 4)
 
@@ -130,20 +127,22 @@ class Views(unittest.TestCase):
 
     def test_a_card_with_more_touches_than_a_page_has_names_the_command(self) -> None:
         row = Row(0, NOW, "2025-01-06", 7, 1, 1, "top-up", "", "100", "ToppedUp", 100, 100)
-        found = Statement(1, [row] * 3, 5, Pence(100), Pence(500), Pence(400), False)
-        page = pages().card("1", found, None, "bovtrila history --card 1")
+        found = Touches(1, [row] * 3, 5, Pence(100), Pence(500), Pence(400), False)
+        page = pages().card("/touches", "1", found, None, "bovtrila history --card 1")
         self.assertIn("The newest 3 touches are here. This command prints all: <code>bovtrila history", page)
         self.assertEqual(paged.Page(page).texts["balance"], "£1.00")
 
 
 class Picture(unittest.TestCase):
-    """The picture of the page in the documents."""
+    """The pictures of pages in the documents."""
 
-    def test_it_is_that_of_todays_page_and_is_shown(self) -> None:
+    def test_each_is_that_of_todays_page_and_is_shown(self) -> None:
         done = subprocess.run([TOP / "scripts" / "dev" / "page-picture", "--check"], capture_output=True, text=True)
         self.assertEqual((done.returncode, done.stderr), (0, ""))
-        self.assertIn("](pictures/page.png)\n", (TOP / "docs" / "OPERATING.md").read_text())
-        self.assertLess((TOP / "docs" / "pictures" / "page.png").stat().st_size, 50_000)
+        for name, page in (("page", "OPERATING"), ("statement", "OPERATING"), ("report", "AUDIT")):
+            found, = (TOP / "docs").glob(f"**/{page}.md")
+            self.assertRegex(found.read_text(), rf"\]\((?:\.\./)?pictures/{name}\.png\)\n")
+            self.assertLess((TOP / "docs" / "pictures" / f"{name}.png").stat().st_size, 60_000)
 
 
 class Facts(unittest.TestCase):
@@ -155,8 +154,8 @@ class Facts(unittest.TestCase):
         self.folder = pathlib.Path(room.name)
 
     def journal(self, moments: Sequence[int]) -> Journal:
-        frames = [model.touch(model.TOP_UP, 7, number, 1, 1, moment) for number, moment in enumerate(moments)]
-        (self.folder / "journal").write_bytes(model.journal_of(frames, 1000, 10, bytes(32)))
+        frames = [codec.touch(codec.TOP_UP, 7, number, 1, 1, moment) for number, moment in enumerate(moments)]
+        (self.folder / "journal").write_bytes(layout.journal_of(frames, 1000, 10, bytes(32)))
         journal = Journal(str(self.folder / "journal"))
         journal.read()
         return journal
@@ -167,6 +166,19 @@ class Facts(unittest.TestCase):
         journal = self.journal([BEGIN - 1, BEGIN, NOW, NOW + 900, BEGIN + 86_399, BEGIN + 86_400])
         for now, count in ((NOW, 4), (BEGIN - 1, 1), (BEGIN, 4), (BEGIN + 86_400, 1), (BEGIN + 3 * 86_400, 0)):
             self.assertEqual(web_facts.today(journal, tables, now), count, now)
+
+    def test_the_balances_of_the_journal_before_are_no_touches_of_a_day(self) -> None:
+        begun = [codec.touch(codec.ISSUE, 65_535, 1, 1, NOW), codec.touch(codec.TOP_UP, 65_535, 2, 1, 1000, NOW)]
+        later = [codec.touch(codec.TOP_UP, 7, 1, 1, 1, NOW), codec.touch(codec.TOP_UP, 65_535, 3, 1, 1000, NOW)]
+        gates = {"gates": [{"gate": gate, "number": 1, "kind": "top-up", "moment": "2025-01-06T08:25:00Z"}
+                           for gate in (7, 65_535)]}
+        for frames, count, cards, own in (([*begun, *later], 2, {1: 1}, [7]), (begun, 0, {1: 1}, [7]),
+                                          (later, 2, {}, [7, 65_535])):
+            (self.folder / "journal").write_bytes(layout.journal_of(frames, 1000, 10, bytes(32)))
+            journal = Journal(str(self.folder / "journal"))
+            journal.read()
+            self.assertEqual((web_facts.today(journal, Tables([EXAMPLE]), NOW), journal.carried.top_ups), (count, cards))
+            self.assertEqual([gate.number for gate in web_facts.gates_of(gates, journal, NOW)], own)
 
     def test_slots_are_the_connections_at_the_servers_port(self) -> None:
         with socket.create_server(("127.0.0.1", 0)) as server, socket.create_connection(server.getsockname()) as own:
@@ -210,7 +222,7 @@ class Facts(unittest.TestCase):
             self.assertIsNone(web_facts.reason_of("bovtrila"))
 
     def test_a_tables_zone_is_its_clock(self) -> None:
-        zone = web_history.zone_of(wire.table_of(EXAMPLE).table["zone"])
+        zone = web_history.zone_of(table_file.read(EXAMPLE).table["zone"])
         for moment in range(1_700_000_000, 1_800_000_000, 999_983):
             ours, londons = (datetime.datetime.fromtimestamp(moment, each) for each in (zone, LONDON))
             self.assertEqual(f"{ours:%c %Z}", f"{londons:%c %Z}")

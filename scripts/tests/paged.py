@@ -1,18 +1,19 @@
-"""A day at a station with its touches, as scripts/model.py judges them, for the page of scripts/exporter; and a program that
-prints histories in the place of bovtrila, so that a test can make it fail, hang or print anything."""
+"""A day at a station with its touches, as bovtrila.model judges them, for the page of bovtrila-exporter; and a program that
+prints histories and statements in the place of bovtrila, so that a test can make it fail, hang or print anything."""
 import html.parser
 import http.client
+import json
 import pathlib
 import random
 import struct
 import subprocess
 import time
 
-import history_rows
-import model
-import wire
+from bovtrila import codec, history_rows, layout, model, table_file
+from bovtrila.journal_view import date, utc
 from harness import EXAMPLE, TIME, TOP
-from journal_view import date, utc
+from statement_forms import Forms
+from statement_model import statement
 
 DAY = 86_400
 # Gate 4 is broken: it sends another station's number. The clock of gate 3 is ahead by these seconds.
@@ -21,11 +22,19 @@ BROKEN, FAST, AHEAD, NOWHERE = 4, 3, 720, 99
 BUSY = (1, 4, 10, 16, 9, 5, 4, 4, 5, 4, 5, 8, 15, 17, 9, 5, 4, 3, 2)
 
 STAND_IN = """#!/usr/bin/python3
-import sys, time
+import json, sys, time
 {begin}
-rows = open({csv!r}, newline="").read().split("\\r\\n")[:-1]
 words = sys.argv[1:]
 named = {{words[place]: words[place + 1] for place in range(1, len(words) - 1) if words[place].startswith("--")}}
+rows = []
+if words[0] == "statement":
+    found = json.load(open({json!r}))
+    if named["--card"] not in found["statements"]:
+        above = int(named["--card"]) > found["cards"]
+        sys.exit(f"fault card {{named['--card']}} " + (f"above {{found['cards']}}" if above else "not issued"))
+    json.dump(found["statements"][named["--card"]], sys.stdout)
+else:
+    rows = open({csv!r}, newline="").read().split("\\r\\n")[:-1]
 for place, row in enumerate(rows):
     fields = row.split(",")
     if place and named.get("--card", fields[5]) != fields[5]:
@@ -81,7 +90,7 @@ class Exporter:
     """A running exporter, with its page."""
 
     def __init__(self, *words: object, every: str = "0.05", env: dict[str, str] | None = None) -> None:
-        command = [str(TOP / "scripts" / "exporter"), "--listen", "127.0.0.1:0", "--every", every, "--timeout", "0.5"]
+        command = [str(TOP / "bin" / "bovtrila-exporter"), "--listen", "127.0.0.1:0", "--every", every, "--timeout", "0.5"]
         self.process = subprocess.Popen([*command, *map(str, words)], stderr=subprocess.PIPE, text=True, env=env)
         assert self.process.stderr is not None
         self.said = [self.process.stderr.readline()]
@@ -128,10 +137,10 @@ class Town:
         self.begin, self.until, self.random = begin, until, random.Random(seed)
         self.cards, self.numbers = cards, dict.fromkeys(range(1, 8), 0)
         self.touches: list[tuple[int, ...]] = []
-        self.station = model.Station(wire.table_of(EXAMPLE), cards)
+        self.station = model.Station(table_file.read(EXAMPLE), cards)
         for card in range(1, cards + 1):
-            self.touches.append((begin - 4000 + card, 7, model.ISSUE, card))
-            self.touches.append((begin - 3000 + card, 7, model.TOP_UP, card, 500 if card % 9 == 0 else 5000))
+            self.touches.append((begin - 4000 + card, 7, codec.ISSUE, card))
+            self.touches.append((begin - 3000 + card, 7, codec.TOP_UP, card, 500 if card % 9 == 0 else 5000))
         for hour, count in enumerate(BUSY):
             for _ in range(count):
                 self.journey(begin + 1800 + 3600 * hour + self.random.randrange(3600))
@@ -141,43 +150,48 @@ class Town:
     def journey(self, moment: int) -> None:
         """A card goes in, and mostly out again."""
         card, start, finish = self.random.randint(1, self.cards + 1), self.random.randint(1, 4), self.random.randint(1, 4)
-        self.touches.append((moment, self.random.choice((1, 1, 2, FAST, FAST, BROKEN)), model.ENTER, card, start))
+        self.touches.append((moment, self.random.choice((1, 1, 2, FAST, FAST, BROKEN)), codec.ENTER, card, start))
         if self.random.random() < 0.94:
             out = moment + self.random.randint(600, 3000)
-            self.touches.append((out, self.random.choice((5, 5, 6)), model.LEAVE, card, finish))
+            self.touches.append((out, self.random.choice((5, 5, 6)), codec.LEAVE, card, finish))
 
     def frame(self, moment: int, gate: int, kind: int, card: int, *more: int) -> bytes:
         """The request of a touch: that of a broken gate names no station, and that of a fast gate has a later moment."""
         self.numbers[gate] += 1
-        more = (NOWHERE,) if gate == BROKEN and kind == model.ENTER else more
+        more = (NOWHERE,) if gate == BROKEN and kind == codec.ENTER else more
         moment += AHEAD if gate == FAST else 0
-        return model.touch(kind, gate, self.numbers[gate], card, *more, moment)
+        return codec.touch(kind, gate, self.numbers[gate], card, *more, moment)
 
     def rows(self) -> list[str]:
         """The rows of the history."""
         made = []
         for place, (frame, answer) in enumerate(zip(self.frames, self.answers)):
-            kind, gate, number, card, *act = struct.unpack(model.FORMS[frame[2]], frame[2:])
+            kind, gate, number, card, *act = struct.unpack(codec.FORMS[frame[2]], frame[2:])
             verdict, change, balance = struct.unpack(">Biq", answer[9:])
-            station = act[0] if kind in (model.ENTER, model.LEAVE) else ""
-            pence = act[0] if kind == model.TOP_UP else ""
+            station = act[0] if kind in (codec.ENTER, codec.LEAVE) else ""
+            pence = act[0] if kind == codec.TOP_UP else ""
             day = date(self.station.schedule.stamp(act[-1]).day)
-            made.append(",".join(map(str, (place, utc(act[-1]), day, gate, number, card, model.ACTS[kind], station, pence,
+            made.append(",".join(map(str, (place, utc(act[-1]), day, gate, number, card, codec.ACTS[kind], station, pence,
                                            model.VERDICTS[verdict], change, balance))))
         return made
 
     def lay(self, folder: pathlib.Path, begin: str = "", end: str = "") -> pathlib.Path:
-        """Lays the journal and its history into a folder, and a program there that prints them: its path."""
-        digest = wire.table_of(EXAMPLE).digest
-        (folder / "journal").write_bytes(model.journal_of(self.frames, 1000, self.cards, digest))
+        """Lays the journal, its history and the statements of its cards into a folder, and a program there that prints
+        these: its path."""
+        digest = table_file.read(EXAMPLE).digest
+        (folder / "journal").write_bytes(layout.journal_of(self.frames, 1000, self.cards, digest))
         text = "".join(f"{row}\r\n" for row in (history_rows.HEADING, *self.rows()))
         (folder / "history.csv").write_text(text, newline="")
+        forms, cards = Forms(self.station.schedule), self.station.cards
+        found = {number: forms.json(statement(self.station, number)) for number in cards if cards[number].issued}
+        (folder / "statements.json").write_text(json.dumps({"cards": self.cards, "statements": found}))
         return stand_in(folder, begin, end)
 
 
 def stand_in(folder: pathlib.Path, begin: str = "", end: str = "") -> pathlib.Path:
-    """A program that prints the history of a folder, after and before these lines of Python."""
+    """A program that prints the history and the statements of a folder, after and before these lines of Python."""
     program = folder / "stand-in"
-    program.write_text(STAND_IN.format(csv=str(folder / "history.csv"), begin=begin, end=end))
+    program.write_text(STAND_IN.format(csv=str(folder / "history.csv"), json=str(folder / "statements.json"), begin=begin,
+                                       end=end))
     program.chmod(0o755)
     return program

@@ -1,5 +1,5 @@
 """The pictures of docs/pictures/: each is the one of its text, and a page shows it with the description of that text. The
-picture that scripts/dev/page-picture makes has no text: scripts/tests/watched-pages checks it."""
+picture that scripts/dev/page-picture makes has no text: scripts/tests/test_watched_pages.py checks it."""
 import pathlib
 import re
 import shutil
@@ -26,7 +26,7 @@ class Pictures(unittest.TestCase):
 
     def test_each_is_shown_with_its_description(self) -> None:
         found: dict[pathlib.Path, set[str]] = {}
-        for page in (TOP / "README.md", *(TOP / "docs").glob("*.md")):
+        for page in (TOP / "README.md", *(TOP / "docs").glob("*/*.md")):
             for match in SHOWN.finditer(page.read_text()):
                 if match["path"].endswith(".svg"):
                     found.setdefault((page.parent / match["path"]).resolve(), set()).add(match["alt"])

@@ -4,19 +4,18 @@ import struct
 import threading
 from collections.abc import Collection
 
-import model
-import wire
+from bovtrila import codec, model, vector_file, wire
 from listening import Door
 
 
 class Planted:
     """A server over the model of one server of docs/vectors.txt, with a planted fault, on a free port. Without one it
-    is right. It takes its rules from scripts/model.py as it stands: a test that replaces a rule there gets a server
+    is right. It takes its rules from bovtrila.model as it stands: a test that replaces a rule there gets a server
     with that rule."""
 
     def __init__(self, flaw: str | None = None, server: str = "example") -> None:
         self.flaw, self.lock = flaw, threading.Lock()
-        self.described = next(station for station in wire.vectors() if station.name == server)
+        self.described = next(station for station in vector_file.read() if station.name == server)
         self.station = self.described.model()
         self.whole: list[bytes] | None = None
         self.shown: model.Station | None = None
@@ -48,12 +47,12 @@ class Planted:
                 first = self.station.named.get((gate, number))
                 if first:
                     return first[1]
-            elif self.flaw == "records a table that is not there" and frame[2] == model.REVISE:
-                return model.framed(">BHIBiq", model.REPLY, *struct.unpack(">HI", frame[3:9]), model.REVISED, 0, 0)
-            elif self.flaw == "shows an older front" and frame[2] == model.ENQUIRE and self.station.history:
-                return model.framed(">BBqI", model.HOLDING, *struct.unpack(">BqI", self.station.answer(frame)[3:])[:2],
+            elif self.flaw == "records a table that is not there" and frame[2] == codec.REVISE:
+                return codec.framed(">BHIBiq", codec.REPLY, *struct.unpack(">HI", frame[3:9]), codec.REVISED, 0, 0)
+            elif self.flaw == "shows an older front" and frame[2] == codec.ENQUIRE and self.station.history:
+                return codec.framed(">BBqI", codec.HOLDING, *struct.unpack(">BqI", self.station.answer(frame)[3:])[:2],
                                     len(self.station.history) - 1)
-            return (self.shown if self.shown and frame[2] == model.ENQUIRE else self.station).answer(frame)
+            return (self.shown if self.shown and frame[2] == codec.ENQUIRE else self.station).answer(frame)
 
     def serve(self, connection: socket.socket) -> None:
         held = b""
@@ -75,7 +74,7 @@ class Planted:
             if len(held) >= 3:
                 is_begun = wire.REQUESTS.get(held[2]) == wire.number_at(held, 0, 2)
             if not is_begun and (self.flaw != "waits for a whole bad frame" or len(held) > 6):
-                connection.sendall(model.fault(model.BAD_FRAME))
+                connection.sendall(codec.fault(codec.BAD_FRAME))
                 if self.flaw == "goes on behind a bad frame":
                     return b""
                 return None

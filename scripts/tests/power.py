@@ -1,4 +1,4 @@
-"""What a loss of power may leave of a file, by the calls on it (docs/JOURNAL.md, "The disk")."""
+"""What a loss of power may leave of a file, by the calls on it (docs/reference/JOURNAL.md, "The disk")."""
 import itertools
 import random
 from collections.abc import Iterable, Iterator

@@ -1,5 +1,4 @@
 """A repository of its own for each test of scripts/release, where the programs, the toolchain and lintian are stand-ins."""
-import atexit
 import functools
 import os
 import pathlib
@@ -10,6 +9,7 @@ import tempfile
 import unittest
 
 import debs
+import harness
 import program
 from harness import TOP
 
@@ -17,8 +17,8 @@ VERSION = program.version()
 LOGIC = "logic 0123456789abcdef"
 KIT = f"stand-in-kit {LOGIC}"
 # What a release is made of: of the crates, those whose files a package or its pages are made of.
-PARTS = ("scripts", "packaging", "docs", "clients", "network", "crates/program_options", "crates/command_line",
-         "crates/gate_send", "crates/tap_server")
+PARTS = ("bin", "tools", "scripts", "packaging", "docs", "clients", "network", "crates/program_options",
+         "crates/command_line", "crates/gate_send", "crates/tap_server")
 FILES = (".gitignore", "CHANGELOG.md", "HANDLES", "LICENSE", "NOTICE", "README.md", "SECURITY.md", "VERSION", "crates.txt")
 TOOLS = {"rt": f"echo '{KIT}'", "lintian": "exit 0"}
 SERVER = f"""#!/bin/sh
@@ -36,7 +36,12 @@ umask 022
 cd "$(dirname "$0")/.."
 tree=$1/tree
 changed=
-mkdir -p "$tree/DEBIAN" "$tree/usr/share/doc/bovtrila"
+mkdir -p "$tree/DEBIAN" "$tree/usr/bin" "$tree/usr/share/doc/bovtrila" "$tree/usr/share/bovtrila/docs"
+cp crates/tap_server/out/tap_server "$tree/usr/bin/bovtrila"
+cp NOTICE "$tree/usr/share/doc/bovtrila/copyright"
+find docs -name example.toml -exec cp {{}} "$tree/usr/share/bovtrila/docs/" ';'
+find docs -name '[A-Z]*.md' -exec cp {{}} "$tree/usr/share/doc/bovtrila/" ';'
+gzip -n "$tree/usr/share/doc/bovtrila/COMMANDS.md"
 # DO
 cat >"$tree/DEBIAN/control" <<END
 Package: bovtrila
@@ -71,7 +76,7 @@ def commit(top: pathlib.Path) -> None:
 def original() -> pathlib.Path:
     """A repository with built stand-ins and a clean working tree, and beside it the tools."""
     room = tempfile.TemporaryDirectory(prefix="releases-")
-    atexit.register(room.cleanup)
+    harness.AT_END.callback(room.cleanup)
     top, tools = pathlib.Path(room.name) / "top", pathlib.Path(room.name) / "tools"
     for part in PARTS:
         shutil.copytree(TOP / part, top / part, ignore=shutil.ignore_patterns("__pycache__", "out"))
@@ -83,7 +88,7 @@ def original() -> pathlib.Path:
     write(top / "crates" / "tap_server" / "out" / "tap_server", SERVER)
     (top / "crates" / "gate_send" / "out").mkdir()
     shutil.copy(shutil.which("true") or "", top / "crates" / "gate_send" / "out" / "gate_send")
-    subprocess.run([sys.executable, "-B", "-c", NOTES], cwd=top / "scripts", check=True)
+    subprocess.run([sys.executable, "-B", "-c", NOTES], cwd=top / "scripts" / "dev", check=True)
     git(top, "init", "--quiet", "--initial-branch", "main")
     git(top, "config", "user.name", "Nobody")
     git(top, "config", "user.email", "nobody@example.com")

@@ -72,16 +72,16 @@ class ReleaseRefused(ReleaseTest):
     def test_programs_that_are_not_built(self) -> None:
         for name in ("tap_server", "gate_send"):
             shutil.rmtree(self.top / "crates" / name / "out")
-        self.assert_refused("tap_server isn't built and proved of these sources: run scripts/bovtrila serve --help",
-                            "gate_send isn't built and proved of these sources: run scripts/bovtrila gate_send --help")
+        self.assert_refused("tap_server isn't built and proved of these sources: run bin/bovtrila serve --help",
+                            "gate_send isn't built and proved of these sources: run bin/gate_send --help")
 
     def test_a_program_that_is_built_of_other_sources(self) -> None:
         with open(self.top / "crates" / "gate_send" / "src" / "arguments.rt", "a") as file:
             file.write("// other\n")
         subprocess.run([sys.executable, "-B", "-c", NOTES.replace("'gate_send'", "'tap_server'")],
-                       cwd=self.top / "scripts", check=True)
+                       cwd=self.top / "scripts" / "dev", check=True)
         commit(self.top)
-        self.assert_refused("gate_send isn't built and proved of these sources: run scripts/bovtrila gate_send --help")
+        self.assert_refused("gate_send isn't built and proved of these sources: run bin/gate_send --help")
 
     def test_without_the_toolchain(self) -> None:
         (self.room / "tools" / "rt").unlink()
@@ -214,6 +214,22 @@ class ReleaseMade(ReleaseTest):
         self.assert_made(VERSION)
         self.assertEqual(*({file.name: digest_of(file) for file in folder.iterdir()} for folder in (first, self.to)))
 
+    def test_an_auditor_unpacks_the_program_and_runs_it(self) -> None:
+        self.assert_made("--dry-run", VERSION)
+        name = f"bovtrila-verify-{VERSION}-x86_64"
+        with tarfile.open(self.to / f"{name}.tar.gz") as tar:
+            self.assertEqual({(one.mtime, one.uid, one.gid) for one in tar},
+                             {(int(git(self.top, "log", "-1", "--format=%ct")), 0, 0)})
+        subprocess.run(["tar", "-xf", self.to / f"{name}.tar.gz", "-C", self.room], check=True)
+        folder = self.room / name
+        pages = {f"doc/{page}.md" for page in ("AUDIT", "COMMANDS", "FARES", "FAULTS", "GLOSSARY", "JOURNAL", "TABLE")}
+        self.assertEqual({str(file.relative_to(folder)) for file in folder.rglob("*") if file.is_file()},
+                         {"bovtrila", "README", "PROVED", "copyright", "example.toml", *pages})
+        said = subprocess.run(["./bovtrila", "--version"], cwd=folder, capture_output=True, text=True, check=True).stdout
+        self.assertEqual(said.partition("\n")[0], f"bovtrila {VERSION}")
+        self.assertIn(" processor with libc6 (>= 2.34), the\n", (folder / "README").read_text())
+        self.assertTrue((folder / "doc" / "COMMANDS.md").read_text().startswith("# "))
+
     def test_what_the_package_depends_on_is_in_the_bill_of_materials(self) -> None:
         self.assert_made("--dry-run", VERSION)
         bill = json.loads((self.to / f"bovtrila-{VERSION}.spdx.json").read_text())
@@ -253,7 +269,8 @@ class ReleaseContents(ReleaseTest):
     def test_what_is_in_it(self) -> None:
         self.assertRegex(self.package.name, rf"^bovtrila_{re.escape(VERSION)}-\d{{8}}\.\d{{6}}_amd64\.deb$")
         archive, bill = f"bovtrila-{VERSION}.tar.gz", f"bovtrila-{VERSION}.spdx.json"
-        names = {"PROVED", "SHA256SUMS", archive, bill, self.package.name, self.network.name}
+        for_auditors = f"bovtrila-verify-{VERSION}-x86_64.tar.gz"
+        names = {"PROVED", "SHA256SUMS", archive, bill, for_auditors, self.package.name, self.network.name}
         self.assertEqual({file.name for file in self.to.iterdir()}, names)
         self.assert_digests(names - {"SHA256SUMS"})
         sources = self.assert_sources(archive)
@@ -275,8 +292,8 @@ class ReleaseContents(ReleaseTest):
         """The archive has what the commit has: the folder where it is unpacked."""
         with tarfile.open(self.to / archive) as tar:
             self.assertEqual({one.mtime for one in tar}, {int(git(self.top, "log", "-1", "--format=%ct"))})
-            # The argument is newer than the types of Debian's mypy.
-            tar.extractall(self.room / "sources", filter="tar")  # type: ignore[call-arg]
+        (self.room / "sources").mkdir(exist_ok=True)
+        subprocess.run(["tar", "-xf", self.to / archive, "-C", self.room / "sources"], check=True)
         sources = self.room / "sources" / f"bovtrila-{VERSION}"
         unpacked = {str(file.relative_to(sources)) for file in sources.rglob("*") if not file.is_dir()}
         self.assertEqual(unpacked, set(git(self.top, "ls-files").splitlines()))

@@ -11,7 +11,7 @@ from collections.abc import Iterable, Sequence
 from typing import Any, TypeAlias
 
 import harness
-import model
+from bovtrila import codec, layout
 from harness import CRATES, EXAMPLE, PROGRAM, TIME
 from running import Server
 
@@ -19,12 +19,12 @@ from running import Server
 Ended: TypeAlias = tuple[int, list[str], str]
 
 GATE_SEND = CRATES / "gate_send" / "out" / "gate_send"
-# A card's first morning, and what it is answered: docs/PROTOCOL.md, "Requests and their answers".
+# A card's first morning, and what it is answered: docs/reference/PROTOCOL.md, "Requests and their answers".
 MORNING = ["at 1736149800 issue 1", "at 1736150100 top-up 1 2000", "at 1736150400 in 1 2", "at 1736151900 out 1 1"]
 ANSWERED = ["7,1,1,issue,,,Issued,0,0", "7,2,1,top-up,,2000,ToppedUp,2000,2000", "7,3,1,in,2,,Entered,-900,1100",
             "7,4,1,out,1,,Exited,550,1650"]
-FRAMES = [model.touch(model.ISSUE, 7, 1, 1, 1736149800), model.touch(model.TOP_UP, 7, 2, 1, 2000, 1736150100),
-          model.touch(model.ENTER, 7, 3, 1, 2, 1736150400), model.touch(model.LEAVE, 7, 4, 1, 1, 1736151900)]
+FRAMES = [codec.touch(codec.ISSUE, 7, 1, 1, 1736149800), codec.touch(codec.TOP_UP, 7, 2, 1, 2000, 1736150100),
+          codec.touch(codec.ENTER, 7, 3, 1, 2, 1736150400), codec.touch(codec.LEAVE, 7, 4, 1, 1, 1736151900)]
 
 
 class SendTest(harness.ProgramTest):
@@ -109,19 +109,19 @@ class Scripted:
 
 
 def reply(number: int, verdict: int, change: int, balance: int, gate: int = 7) -> bytes:
-    return model.framed(">BHIBiq", model.REPLY, gate, number, verdict, change, balance)
+    return codec.framed(">BHIBiq", codec.REPLY, gate, number, verdict, change, balance)
 
 
 def touches_in(data: bytes, digest: bytes) -> list[bytes] | None:
     """The frames of the touches in a journal with this digest, or in a gate's file with it as its tag, read by the format of
-    docs/JOURNAL.md; `None` where these bytes are none."""
+    docs/reference/JOURNAL.md; `None` where these bytes are none."""
     if len(data) < 65 or data[0] != 0xA5:
         return None
     if data[1:9] != b"OYSTERJ2" or data[17:49] != digest:
         raise AssertionError(f"another header: {data[:64].hex()}")
     found: list[bytes] = []
     capacity = int.from_bytes(data[9:13], "big")
-    sizes = {model.ISSUE: 15, model.TOP_UP: 19, model.ENTER: 17, model.LEAVE: 17}
+    sizes = {codec.ISSUE: 15, codec.TOP_UP: 19, codec.ENTER: 17, codec.LEAVE: 17}
     while len(found) < capacity:
         slot = data[64 + 64 * len(found):][:64]
         if slot and slot[0] != 0xA5:
@@ -134,13 +134,13 @@ def touches_in(data: bytes, digest: bytes) -> list[bytes] | None:
 
 
 def tag(gate: int) -> bytes:
-    """What stands in a gate's file in the place of a digest (docs/JOURNAL.md, "A gate's file")."""
+    """What stands in a gate's file in the place of a digest (docs/reference/JOURNAL.md, "A gate's file")."""
     return b"touches of one gate, by number" + gate.to_bytes(2, "big")
 
 
 def file_of(frames: Sequence[bytes], capacity: int, gate: int) -> bytes:
     """The bytes of a gate's file with the touches of these frames."""
-    content = model.journal_of(frames, capacity, 1, tag(gate))
+    content = layout.journal_of(frames, capacity, 1, tag(gate))
     return content if len(frames) < capacity else content[:-1]
 
 

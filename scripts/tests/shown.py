@@ -29,7 +29,7 @@ DIFFERS = (
     ("a carriage return, which a page can't show", re.compile(r"\r"), ""),
 )
 # The ports of the pages: a free one stands in the place of each.
-PORTS = ("4014", "4015")
+PORTS = ("4014", "4016")
 # What a command asks at a terminal, and what is typed behind it.
 ASKED, TYPED = "Type yes: ", "yes\n"
 
@@ -100,21 +100,15 @@ class Shell:
         self.home = self.folder / self.HOME
         self.home.mkdir(exist_ok=True)
         self.ports = dict(zip(PORTS, free_ports(len(PORTS))))
-        for name in ("docs", "network", "crates", "clients"):
+        for name in ("docs", "network", "crates", "clients", "scripts"):
             (self.folder / name).symlink_to(TOP / name)
-        (self.folder / "scripts").mkdir()
-        for script in (TOP / "scripts").iterdir():
-            if script.name not in ("bovtrila", "__pycache__"):
-                (self.folder / "scripts" / script.name).symlink_to(script)
-        # The programs as they are built: whether scripts/bovtrila has to build them is no question of the pages. Scripts
-        # that look on the path find the station's there.
-        program, path = self.folder / "scripts" / "bovtrila", self.folder / "bin"
-        gate = CRATES / "gate_send" / "out" / "gate_send"
-        program.write_text(f'#!/bin/sh\nif [ "$1" = gate_send ]; then shift; exec "{gate}" "$@"; fi\n'
-                           f'exec "{PROGRAM}" "$@"\n')
-        program.chmod(0o755)
+        # The programs as they are built: whether bin/bovtrila has to build them is no question of the pages.
+        path = self.folder / "bin"
         path.mkdir()
-        (path / "bovtrila").symlink_to(program)
+        (path / "bovtrila").symlink_to(PROGRAM)
+        (path / "gate_send").symlink_to(CRATES / "gate_send" / "out" / "gate_send")
+        for command in self.commands():
+            (path / command.name).symlink_to(command)
         self.env = {**os.environ, "PATH": f"{path}:{os.environ['PATH']}"}
         self.env.update((name, str(value)) for name, value in more.items())
         self.process = subprocess.Popen(["bash", "--norc"], cwd=self.home, env=self.env, stdin=subprocess.PIPE,
@@ -123,6 +117,10 @@ class Shell:
         assert self.process.stdin and self.process.stdout, "pipes"
         self.given, self.printed = self.process.stdin, self.process.stdout
         self.tell("shopt -s expand_aliases; trap 'kill $(jobs -p) 2>/dev/null; wait' EXIT; true")
+
+    def commands(self) -> list[pathlib.Path]:
+        """The files of the commands bovtrila-NAME."""
+        return sorted((TOP / "bin").glob("bovtrila-*"))
 
     def end(self) -> None:
         """Ends the shell, and the servers with it."""

@@ -24,13 +24,16 @@ class StationShell(shown.Shell):
         for place in PLACES:
             (self.machine / place.lstrip("/")).mkdir(parents=True)
         for file, place in installed.rows():
-            if f"/{place}".startswith(PLACES) and not installed.is_command(file):
+            if f"/{place}".startswith(PLACES):
                 to = self.machine / place
                 to.parent.mkdir(parents=True, exist_ok=True)
                 to.symlink_to(file)
         super().__init__(folder, MACHINE=self.machine, PROGRAM=PROGRAM, **more)
         for name in ("sudo", "systemctl", *(f"bovtrila-{name}" for name in installed.commands())):
             (folder / "bin" / name).symlink_to(STAND_INS)
+
+    def commands(self) -> list[pathlib.Path]:
+        return []
 
     def names(self) -> dict[str, str]:
         """The machine's folders have their names in the page, and others here."""

@@ -1,7 +1,7 @@
-"""Touches of gates that top cards up, with the replies to them, worked out by the rules of docs/FARES.md: for the scripts
-that kill a server under load."""
+"""Touches of gates that top cards up, with the replies to them, worked out by the rules of docs/reference/FARES.md: for the
+scripts that kill a server under load."""
+from bovtrila import codec
 from collections.abc import Iterable
-import model
 
 # How many touches of a card a gate sends, before it takes its next card.
 TOUCHES = 100
@@ -25,8 +25,8 @@ class Cards:
         card."""
         card, place = (gate - 1) * self.each + (number - 1) // TOUCHES + 1, (number - 1) % TOUCHES
         if place == 0:
-            return model.touch(model.ISSUE, gate, number, card, MONDAY)
-        return model.touch(model.TOP_UP, gate, number, card, place, MONDAY)
+            return codec.touch(codec.ISSUE, gate, number, card, MONDAY)
+        return codec.touch(codec.TOP_UP, gate, number, card, place, MONDAY)
 
     def touches(self, gate: int, count: int) -> list[bytes]:
         """The first touches of a gate."""
@@ -37,7 +37,7 @@ class Cards:
         limit."""
         place = (number - 1) % TOUCHES
         verdict, balance = (ISSUED, 0) if place == 0 else (TOPPED_UP, place * (place + 1) // 2)
-        return model.framed(">BHIBiq", model.REPLY, gate, number, verdict, place, balance)
+        return codec.framed(">BHIBiq", codec.REPLY, gate, number, verdict, place, balance)
 
 
 def by_gate(frames: Iterable[bytes]) -> dict[int, list[bytes]]:

@@ -1,7 +1,7 @@
 """A network of six servers with generated days, and the answers that a reference program calculates from its requests: for
-scripts/tests/network.
+scripts/tests/test_network.py.
 
-The answers expected of queries are made from the requests by scripts/model.py, and from no output of the program or of a
+The answers expected of queries are made from the requests by bovtrila.model, and from no output of the program or of a
 database.
 """
 import collections
@@ -11,7 +11,7 @@ import struct
 from collections.abc import Collection, Iterator, Sequence
 from typing import NamedTuple, TypeAlias
 
-import model
+from bovtrila import codec, model
 from harness import EXAMPLE, REVISED
 
 # Thursday 2025-01-30 at 00:00 UTC, on which cards are issued; they travel on the two days after it, over a month's end.
@@ -81,43 +81,43 @@ class Server:
         another. Who wasn't let in doesn't go out. The first part ends with Friday."""
         touches: list[Act] = []
         for card in range(1, CARDS + 1):
-            touches += [(THURSDAY + 40_000 + card, model.ISSUE, card)] if card % 13 else []
-            touches.append((THURSDAY + 50_000 + card, model.TOP_UP, card, self.random.choice((150, 4000, 6000, 9000, 9500))))
+            touches += [(THURSDAY + 40_000 + card, codec.ISSUE, card)] if card % 13 else []
+            touches.append((THURSDAY + 50_000 + card, codec.TOP_UP, card, self.random.choice((150, 4000, 6000, 9000, 9500))))
             for day in (1, 2):
                 for hour in (self.random.gauss(8, 1), self.random.gauss(17, 1), self.random.uniform(9, 26))[card % 2:]:
                     touches += self.journey(card, THURSDAY + day * DAY + int(3600 * hour))
         if self.name != LACKS:
             # Before any card travels on a day from which it counts.
-            touches.append((THURSDAY + 2 * DAY - 3600, model.REVISE, 0))
+            touches.append((THURSDAY + 2 * DAY - 3600, codec.REVISE, 0))
         turned_away: set[int] = set()
         for moment, kind, card, *more in sorted(touches):
-            if kind == model.LEAVE and card in turned_away:
+            if kind == codec.LEAVE and card in turned_away:
                 turned_away.remove(card)
                 continue
             part = moment >= THURSDAY + 2 * DAY + 2 * 3600
             if part and not self.fronts:
                 self.fronts.append(len(self.station.history))
             self.parts[part].append(self.frame(moment, kind, card, *more))
-            if self.station.answer(self.parts[part][-1])[9] >= 20 and kind == model.ENTER:
+            if self.station.answer(self.parts[part][-1])[9] >= 20 and kind == codec.ENTER:
                 turned_away.add(card)
         self.fronts.append(len(self.station.history))
 
     def frame(self, moment: int, kind: int, card: int, *more: int) -> bytes:
-        if kind == model.REVISE:
+        if kind == codec.REVISE:
             digest = model.Table(REVISED.read_text()).digest
-            return model.touch(kind, STAFF, FIRST_DAY, card, digest, FIRST_DAY, FIRST_DAY * DAY)
+            return codec.touch(kind, STAFF, FIRST_DAY, card, digest, FIRST_DAY, FIRST_DAY * DAY)
         gate = self.random.randint(1, 4)
         self.numbers[gate] += 1
         wrong = self.name == WRONG and gate == GATE and moment > THURSDAY + DAY and moment % DAY < 17 * 3600
-        return model.touch(kind, gate, self.numbers[gate], card, *more, moment + AHEAD * wrong)
+        return codec.touch(kind, gate, self.numbers[gate], card, *more, moment + AHEAD * wrong)
 
     def journey(self, card: int, begins: int) -> list[Act]:
         """The touches of a journey, with one of the two forgotten or too late now and then, or at no station."""
         draw, start, finish = self.random.random(), self.random.randint(1, 5), self.random.randint(1, 5)
         ends = begins + self.random.randint(600, 4200) + (6000 if draw > 0.95 else 0)
-        touches: list[Act] = [(begins, model.ENTER, card, start), (ends, model.LEAVE, card, finish if draw > 0.02 else 9)]
+        touches: list[Act] = [(begins, codec.ENTER, card, start), (ends, codec.LEAVE, card, finish if draw > 0.02 else 9)]
         if self.random.random() < 0.1:
-            touches.append((ends + 60, model.TOP_UP, card, self.random.choice((1000, 2000, 60_000))))
+            touches.append((ends + 60, codec.TOP_UP, card, self.random.choice((1000, 2000, 60_000))))
         if 0.02 < draw < 0.14:
             touches.pop(draw < 0.08)
         return touches
@@ -130,14 +130,14 @@ class Server:
     def touches(self, front: int) -> Iterator[Touch]:
         """The touches of the history up to a front, with their replies."""
         for place, frame in enumerate(self.station.history[:front]):
-            kind, gate, number, card, *act = struct.unpack(model.FORMS[frame[2]], frame[2:])
+            kind, gate, number, card, *act = struct.unpack(codec.FORMS[frame[2]], frame[2:])
             answer = self.station.named[gate, number][1]
             verdict, change, balance = struct.unpack(">Biq", answer[9:])
-            day = act[-1] // DAY if kind == model.REVISE else self.station.schedule.stamp(act[-1]).day
+            day = act[-1] // DAY if kind == codec.REVISE else self.station.schedule.stamp(act[-1]).day
             yield Touch(self.station_name, self.name, place, act[-1], date_text(day), gate, number,
-                        self.first_card + card - 1, card, model.ACTS[kind],
-                        act[0] if kind in (model.ENTER, model.LEAVE) else None,
-                        act[0] if kind == model.TOP_UP else None, model.VERDICTS[verdict], change, balance, verdict < 20)
+                        self.first_card + card - 1, card, codec.ACTS[kind],
+                        act[0] if kind in (codec.ENTER, codec.LEAVE) else None,
+                        act[0] if kind == codec.TOP_UP else None, model.VERDICTS[verdict], change, balance, verdict < 20)
 
 
 class Town:

@@ -1,5 +1,5 @@
-"""Scripts of scripts/stand-in: what a server, or the connection to it, may do to a gate that asks for four touches. For
-scripts/tests/gate-library and scripts/tests/gate-sends."""
+"""Scripts of bovtrila-stand-in: what a server, or the connection to it, may do to a gate that asks for four touches. For
+scripts/tests/test_gate_library.py and scripts/tests/test_gate_sends.py."""
 
 # By what it is: its steps. Behind them each answer is as the rules have it.
 TROUBLES = {

@@ -1,4 +1,4 @@
-"""docs/START.md on a new machine: its commands, run as root from its package and under systemd."""
+"""docs/start/START.md on a new machine: its commands, run as root from its package and under systemd."""
 import pathlib
 import re
 import shlex
@@ -9,7 +9,7 @@ import harness
 import machine
 import shown
 
-PAGE, FOLDER = "docs/START.md", "/root/tutorial"
+PAGE, FOLDER = "docs/start/START.md", "/root/tutorial"
 # The page's commands run under another date here.
 AGO = re.compile(r"[\d,]+ days ago")
 
@@ -57,8 +57,10 @@ class Tutorial(harness.ProgramTest):
                     said, expected = self.said(command)
                     self.assertEqual(said, expected)
         with self.subTest("nothing is left"):
-            for text in ("systemctl disable --now bovtrila", "apt-get purge bovtrila", "rm -r /var/lib/bovtrila"):
+            for text in ("systemctl disable --now bovtrila", "apt-get purge bovtrila", "rm -r /var/lib/bovtrila",
+                         "userdel bovtrila"):
                 self.assertIn(f"\nsudo {text}\n", (harness.TOP / PAGE).read_text())
                 self.assertEqual(self.machine.run(*text.split()).returncode, 0, text)
             left = self.machine.run("sh", "-c", "ls -d /etc/bovtrila /var/lib/bovtrila /usr/bin/bovtrila*")
             self.assertEqual(left.stdout, "")
+            self.assertNotEqual(self.machine.run("getent", "group", "bovtrila").returncode, 0)

@@ -1,7 +1,5 @@
-"""Runs of scripts/next-journal that nobody attends: for scripts/tests/full-journals."""
+"""Runs of bovtrila-next-journal that nobody attends: for scripts/tests/test_full_journals.py."""
 import datetime
-import importlib.machinery
-import importlib.util
 import resource
 import shutil
 import signal
@@ -12,14 +10,11 @@ from collections.abc import Sequence
 from typing import Any
 from unittest import mock
 
-import due
-import handover
 import killing
-import model
-import serving
-import wire
+from bovtrila import codec, due, handover, serving, wire
+from bovtrila.commands import next_journal
 from full_station import FAR, FIRST, MORNING, RUN, SCRIPT, Station, Stations, Word
-from harness import PROGRAM
+from harness import BIN, PROGRAM
 
 
 # What `balances` prints of two cards, of which the second one owes 7.10 pounds, and the sums of the requests that carry it.
@@ -74,17 +69,17 @@ class Unattended(Stations):
     def test_above_a_new_journal_follows(self) -> None:
         station = self.station()
         station.start()
-        kept = model.touch(model.TOP_UP, 7, 900, 5, 300, MORNING + 900)
-        self.assertEqual(station.ask(kept), model.fault(model.FULL, 7, 900))
+        kept = codec.touch(codec.TOP_UP, 7, 900, 5, 300, MORNING + 900)
+        self.assertEqual(station.ask(kept), codec.fault(codec.FULL, 7, 900))
         status, out, err = station.alone()
         self.assertEqual((status, err), (0, ""))
         self.assert_carried(station, 9)
         for line in ("revision  to first.toml from 2099-01-05 on: it was sent again", "          card 2: 700",
                      "new       next.journal: 10 cards, room for 4991 more touches, fare table prices.toml",
-                     "Next: nothing, the gates connect again by themselves."):
+                     *handover.UNATTENDED):
             self.assertIn(f"\n{line}\n", out)
-        # `scripts/gate --revise` sends these bytes, and the gates go on.
-        revision = model.touch(model.REVISE, 65_535, FAR, 0, FIRST.digest, FAR, min(86_400 * FAR, 2**32 - 1))
+        # `bovtrila-gate --revise` sends these bytes, and the gates go on.
+        revision = codec.touch(codec.REVISE, 65_535, FAR, 0, FIRST.digest, FAR, min(86_400 * FAR, 2**32 - 1))
         self.assertEqual(wire.in_words(revision, station.ask(revision)), "revised; change 0, balance 0")
         self.assertEqual(wire.in_words(kept, station.ask(kept)), "topped up; change 300, balance 300")
         status, out, _ = station.alone()
@@ -152,13 +147,13 @@ class Unattended(Stations):
         station = self.station(capacity=20)
         station.start()
         lines = station.folder.parent / "lines"
-        lines.write_text(model.touch(model.TOP_UP, 7, 900, 5, 300, MORNING + 900).hex() + "\n")
+        lines.write_text(codec.touch(codec.TOP_UP, 7, 900, 5, 300, MORNING + 900).hex() + "\n")
         stop = station.words[station.words.index("--stop") + 1]
-        status, _, err = station.alone("--stop", f"{SCRIPT.with_name('gate')} {station.listen} {lines} >/dev/null; {stop}")
+        status, _, err = station.alone("--stop", f"{BIN / 'bovtrila-gate'} {station.listen} {lines} >/dev/null; {stop}")
         self.assertEqual((status, serving.front_at(station.listen)), (1, 19))
         self.assertIn("1 touches came while the server was being stopped", err)
         self.assertEqual(station.alone()[::2], (0, ""))
-        self.assertEqual(wire.in_words(model.enquiry(5), station.ask(model.enquiry(5))),
+        self.assertEqual(wire.in_words(codec.enquiry(5), station.ask(codec.enquiry(5))),
                          "card 5 outside; balance 300, after 10 touches")
 
     def test_a_station_without_a_quiet_time_is_left_alone(self) -> None:
@@ -170,7 +165,7 @@ class Unattended(Stations):
             limit, number = time.monotonic() + RUN, 500
             while running.poll() is None and time.monotonic() < limit:
                 number += 1
-                station.ask(model.touch(model.TOP_UP, 7, number, 5, 1, MORNING + number))
+                station.ask(codec.touch(codec.TOP_UP, 7, number, 5, 1, MORNING + number))
                 time.sleep(0.05)
             assert running.stderr, "a pipe"
             err = running.stderr.read()
@@ -192,37 +187,32 @@ class Unattended(Stations):
                 self.assertLess(time.monotonic(), limit)
             time.sleep(watch / 2)
             sent = time.time()
-            touch = model.touch(model.TOP_UP, 7, 900, 5, 300, MORNING + 900)
+            touch = codec.touch(codec.TOP_UP, 7, 900, 5, 300, MORNING + 900)
             self.assertEqual(wire.in_words(touch, station.ask(touch)), "topped up; change 300, balance 300")
             self.assertEqual((running.communicate(timeout=RUN)[1], running.returncode), ("", 0))
         # The touch began the time anew.
         self.assertGreaterEqual(float(stopped.read_text()) - sent, watch)
-        self.assertEqual(wire.in_words(model.enquiry(5), station.ask(model.enquiry(5))),
+        self.assertEqual(wire.in_words(codec.enquiry(5), station.ask(codec.enquiry(5))),
                          "card 5 outside; balance 300, after 10 touches")
 
-    def test_the_time_is_a_minute_if_nobody_attends(self) -> None:
-        loader = importlib.machinery.SourceFileLoader("next_journal", str(SCRIPT))
-        spec = importlib.util.spec_from_loader("next_journal", loader)
-        assert spec, "a loader of a file makes one"
-        script = importlib.util.module_from_spec(spec)
-        loader.exec_module(script)
-        for words, seconds in ((["--when-above", "90%"], 60), (["station.journal", "--settled"], 5),
+    def test_a_gate_with_two_addresses_repeats_in_the_time_if_nobody_attends(self) -> None:
+        for words, seconds in ((["--when-above", "90%"], 130), (["station.journal", "--settled"], 5),
                                (["--when-above", "90%", "--watch", "7"], 7)):
             with self.subTest(words), mock.patch("sys.argv", ["next-journal", *words]):
-                self.assertEqual(script.options().watch, seconds)
+                self.assertEqual(next_journal.options().watch, seconds)
 
     def test_a_touch_that_comes_while_balances_are_calculated_is_carried(self) -> None:
         station = self.station(capacity=20)
         station.start()
         lines, seen, program = (station.folder.parent / name for name in ("lines", "seen", "program"))
-        lines.write_text(model.touch(model.TOP_UP, 7, 900, 5, 300, MORNING + 900).hex() + "\n")
+        lines.write_text(codec.touch(codec.TOP_UP, 7, 900, 5, 300, MORNING + 900).hex() + "\n")
         program.write_text(f'#!/bin/sh\ncase "$*" in\nbalances*lib/station.journal*) {PROGRAM} "$@" || exit\n'
-                           f"test -e {seen} || {SCRIPT.with_name('gate')} {station.listen} {lines} >{seen} ;;\n"
+                           f"test -e {seen} || {BIN / 'bovtrila-gate'} {station.listen} {lines} >{seen} ;;\n"
                            f'*) exec {PROGRAM} "$@" ;;\nesac\n')
         program.chmod(0o755)
         status, _, err = station.alone("--program", program)
         self.assertEqual((status, err, "topped up" in seen.read_text()), (0, "", True))
-        self.assertEqual(wire.in_words(model.enquiry(5), station.ask(model.enquiry(5))),
+        self.assertEqual(wire.in_words(codec.enquiry(5), station.ask(codec.enquiry(5))),
                          "card 5 outside; balance 300, after 10 touches")
 
     def test_a_disk_without_room_is_found_before_the_server_is_stopped(self) -> None:
@@ -273,12 +263,12 @@ class Unattended(Stations):
         station = self.station()
         station.start()
         lines = station.folder.parent / "lines"
-        lines.write_text(model.touch(model.TOP_UP, 7, 900, 5, 300, MORNING + 900).hex() + "\n")
+        lines.write_text(codec.touch(codec.TOP_UP, 7, 900, 5, 300, MORNING + 900).hex() + "\n")
         start = station.words[station.words.index("--start") + 1]
         seen = station.folder.parent / "seen"
         status, _, err = station.alone(*station.other_start(
             f"{start}\ntest -e {seen} && exit 0\ntouch {seen}\n"
-            f"{SCRIPT.with_name('gate')} {station.listen} {lines} >{seen} 2>&1\n"
+            f"{BIN / 'bovtrila-gate'} {station.listen} {lines} >{seen} 2>&1\n"
             "exit 1"))
         self.assertEqual((status, err.count("\n")), (1, 1))
         self.assertIn("; next.journal has 1 touches of gates already, so the server stays on it\n", err)
