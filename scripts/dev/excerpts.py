@@ -1,6 +1,6 @@
 # SPDX-License-Identifier: Apache-2.0
-"""The tables of docs/PERFORMANCE.md: rows and columns of the tables of docs/MEASUREMENTS.md. scripts/dev/measure-all writes both
-pages, and `scripts/dev/measure-all --excerpts` this one alone.
+"""The tables of docs/operate/PERFORMANCE.md: rows and columns of the tables of docs/develop/MEASUREMENTS.md.
+scripts/dev/measure-all writes both pages, and `scripts/dev/measure-all --excerpts` this one alone.
 
 A column is named by its head in the table of the measurements. Where heads are equal, a number follows: `Through TLS 2` is
 the second of them."""
@@ -33,7 +33,7 @@ FLUSHES = ("Touches stored by", "A second, 1 gate", "99th percentile, ms", "A se
            "A second, 64 gates", "99th percentile, ms 3")
 OVER_TLS = ("Asked", "Gates", "Median of an answer, us", "Through TLS 2", "99th percentile, us", "Through TLS 3")
 FILES = ("Asked", "Gates", "Median of an answer, us", "By load.c 2")
-AUDITED = ("the opening", "`replay`", "`verify`", "`verify --seal`", "`balances`", "`history`")
+AUDITED = ("the opening", "`replay`", "`verify`", "`verify --seal`", "`balances`", "`history`", "`statement --card 1`")
 ON_A_DISK, SHARED = "touches, journal on a disk", "touch, files on the server's disk"
 
 EXCERPTS = {

@@ -14,6 +14,7 @@ LIMITS = {
     "TOP_UP_LIMIT": "crates/oyster_account/src/refusal.rt",
     "CARD_LIMIT": "crates/reply_book/src/book.rt",
     "HIGHEST_BALANCE": "crates/fare_table/src/key.rt",
+    "FARE_DAY_START": "crates/money_time/src/stamp.rt",
 }
 
 

@@ -15,7 +15,7 @@ HEADER = "clients/c/bovtrila_gate.h"
 SOURCE = "clients/c/bovtrila_gate.c"
 IN_PYTHON = r'(?P<code>\d+): "(?P<name>\w+)"'
 # The options whose limit is the command line's alone, with what the help says before it.
-OPTIONS = [("connections", "before it is done,"), ("idle", "for so many seconds,"), ("report", "each so many seconds,")]
+OPTIONS = [("connections", "before it ends,"), ("idle", "for this many seconds,"), ("report", "at this interval in.seconds,")]
 ACTS = ("in", "out", "top-up", "issue", "revision")
 
 
@@ -41,7 +41,7 @@ FACTS: dict[str, tuple[Place | Read, list[Place]]] = {
     "verdicts": (
         Place("crates/oyster_account/src/verdict.rt", r"(?:Acceptance|Refusal)::(?P<name>\w+) => (?P<code>\d+),"), [
             Place("crates/oyster_account/src/verdict.rt", r'(?P<code>\d+) => Some\("(?P<name>\w+)"\)'),
-            Place("scripts/model.py", IN_PYTHON, *braces("VERDICTS =")),
+            Place("tools/bovtrila/model.py", IN_PYTHON, *braces("VERDICTS =")),
             Place("network/schema.sql", r"'(?P<name>\w+)'", r"CREATE TYPE verdict AS ENUM", r";"),
         ]),
     "faults of a session": (
@@ -50,19 +50,19 @@ FACTS: dict[str, tuple[Place | Read, list[Place]]] = {
         ]),
     "kinds of requests": (
         Read("the definitions of frames", numbers_of(is_answer=False)), [
-            Place("scripts/model.py", r"(?P<code>\d+)", r"^ENTER, LEAVE, .* = ", r"$"),
+            Place("tools/bovtrila/codec.py", r"(?P<code>\d+)", r"^ENTER, LEAVE, .* = ", r"$"),
         ]),
     "kinds of answers": (
         Read("the definitions of frames", numbers_of(is_answer=True)), [
-            Place("scripts/model.py", r"0x(?P<hex>\w+)", r"^REPLY, .* = ", r"$"),
+            Place("tools/bovtrila/codec.py", r"0x(?P<hex>\w+)", r"^REPLY, .* = ", r"$"),
         ]),
     "lengths of requests": (
         Place("crates/gate_session/src/frame.rt", r"const \w+_LENGTH: usize = (?P<code>\d+);"), [
-            Place("docs/PROTOCOL.md", r"(?P<code>\d+)", r"^\| the second is not ", r" \|"),
+            Place("docs/reference/PROTOCOL.md", r"(?P<code>\d+)", r"^\| the second is not ", r" \|"),
         ]),
     "acts of a history": (
         Read("the definitions of a history's rows", lambda top: [(None, act.word) for act in fact_frames.acts(top)]), [
-            Place("scripts/model.py", r'"(?P<name>[\w-]+)"', *braces("ACTS =")),
+            Place("tools/bovtrila/codec.py", r'"(?P<name>[\w-]+)"', *braces("ACTS =")),
             Place("network/schema.sql", r"'(?P<name>[\w-]+)'", r"CREATE TYPE act AS ENUM", r";"),
         ]),
     **{f"verdicts of act {word}": (
@@ -83,69 +83,70 @@ FACTS: dict[str, tuple[Place | Read, list[Place]]] = {
             Place("crates/command_line/src/arguments.rt", r"const CAPACITY_LIMIT: u32 = (?P<code>[\d_]+);"),
             Place("crates/command_line/src/commands/gates.rt", r"journal has room for, from 1 to (?P<code>\d+)"),
             Place("crates/command_line/src/commands/audits.rt",
-                  r"(?:another capacity, from 1|first N touches, from 0|N from 0) to (?P<code>\d+)"),
-            Place("docs/COMMANDS.md", r"new journal has room for, 1 to (?P<code>\d+)"),
-            Place("docs/JOURNAL.md", r"capacity, in touches, 1 to (?P<code>[\d,]+)"),
-            Place("docs/GATE_LIBRARY.md", r"how many touches the gate may ask in its life, 1 to (?P<code>[\d,]+)"),
-            Place("docs/FARES.md", r"A history has at most (?P<code>[\d,]+)"),
+                  r"(?:another capacity; N from 1|first N touches, from 0|N from 0) to (?P<code>\d+)"),
+            Place("docs/reference/COMMANDS.md", r"new journal has room for, 1 to (?P<code>\d+)"),
+            Place("docs/reference/JOURNAL.md", r"capacity, in touches, 1 to (?P<code>[\d,]+)"),
+            Place("docs/reference/GATE_LIBRARY.md", r"how many touches the gate may ask in its life, 1 to (?P<code>[\d,]+)"),
+            Place("docs/reference/FARES.md", r"A history has at most (?P<code>[\d,]+)"),
             Place("scripts/tests/clients.py", r"1 <= capacity <= (?P<code>[\d_]+)"),
         ]),
     "the most open slots that crashes leave": (
         Place("crates/tap_journal/src/alone.rt", r"const BEHIND_LIMIT: u32 = (?P<code>\d+);"), [
-            Place("network/commands.py", r"^BEHIND = (?P<code>\d+)$"),
-            Place("scripts/tests/audit", r"^BEHIND = (?P<code>\d+)$"),
+            Place("tools/bovtrila/network/commands.py", r"^BEHIND = (?P<code>\d+)$"),
+            Place("scripts/tests/test_audit.py", r"^BEHIND = (?P<code>\d+)$"),
         ]),
     "the most cards of a station": (
         Place("crates/reply_book/src/book.rt", r"const CARD_LIMIT: u32 = (?P<code>[\d_]+);"), [
             Place("crates/command_line/src/arguments.rt", r"const CARDS_LIMIT: u32 = (?P<code>[\d_]+);"),
             Place("crates/command_line/src/commands/*.rt",
-                  r"(?:cards there are|number of cards|this card alone|journal was made), from 1 to (?P<code>\d+)"),
-            Place("docs/JOURNAL.md", r"number of cards, 1 to (?P<code>[\d,]+)"),
-            Place("docs/PROTOCOL.md", r"A server has at most (?P<code>[\d,]+) cards"),
-            Place("docs/NETWORK.md", r"A server has at most (?P<code>[\d,]+) cards"),
+                  r"(?:number of cards|the card|this card|was made with)[,;] (?:N )?from 1 to (?P<code>\d+)"),
+            Place("docs/reference/JOURNAL.md", r"number of cards, 1 to (?P<code>[\d,]+)"),
+            Place("docs/reference/PROTOCOL.md", r"A server has at most (?P<code>[\d,]+) cards"),
+            Place("docs/operate/NETWORK.md", r"A server has at most (?P<code>[\d,]+) cards"),
             Place("scripts/tests/clients.py", r"1 <= cards <= (?P<code>[\d_]+)"),
         ]),
     "the most lines of a server": (
         Place("crates/tap_office/src/opening.rt", r"const SEAT_LIMIT: u16 = (?P<code>\d+);"), [
             Place("crates/command_line/src/arguments.rt", r"const LINES_LIMIT: u32 = (?P<code>\d+);"),
             Place("crates/command_line/src/commands/gates.rt", r"served at once, from 1 to (?P<code>\d+)"),
-            Place("docs/COMMANDS.md", r"served at once, 1 to (?P<code>\d+)"),
+            Place("docs/reference/COMMANDS.md", r"served at once, 1 to (?P<code>\d+)"),
         ]),
     **{f"the limit of --{option}": (
         Place("crates/command_line/src/arguments.rt", rf"const {option.upper()}_LIMIT: u32 = (?P<code>[\d_]+);"), [
             Place("crates/command_line/src/commands/gates.rt", rf"(?s:{told}.from 1.to (?P<code>\d+))"),
-            Place("docs/COMMANDS.md", rf"^\| `--{option} [A-Z]+` .*?, 1 to (?P<code>\d+)"),
+            Place("docs/reference/COMMANDS.md", rf"^\| `--{option} [A-Z]+` .*?, 1 to (?P<code>\d+)"),
         ]) for option, told in OPTIONS},
     "the most pence of a top-up": (
         Place("crates/oyster_account/src/refusal.rt", r"const TOP_UP_LIMIT: u32 = (?P<code>[\d_]+);"), [
-            Place("docs/FARES.md", r"the amount is 0 or above (?P<code>[\d,]+)"),
+            Place("docs/reference/FARES.md", r"the amount is 0 or above (?P<code>[\d,]+)"),
         ]),
     "the most tables of a station": (
         Place("crates/fare_schedule/src/schedule.rt", r"const TABLE_LIMIT: usize = (?P<code>\d+);"), [
-            Place("docs/TABLE.md", r"`5 TooMany` \| (?P<code>\d+) tables are there"),
-            Place("scripts/model.py", r"^MOST_TABLES = (?P<code>\d+)"),
+            Place("docs/reference/TABLE.md", r"`5 TooMany` \| (?P<code>\d+) tables are there"),
+            Place("tools/bovtrila/model.py", r"^MOST_TABLES = (?P<code>\d+)"),
         ]),
     "the program's version": (
         Place("VERSION", r"\A(?P<name>\d+\.\d+\.\d+)\n\Z"), [
             Place("crates/program_options/src/version.rt", r'^pub const VERSION: &str = "(?P<name>[\d.]+)$'),
             Place("crates/command_tests/src/tests/of_command_line.rt", r'"bovtrila (?P<name>[\d.]+)\\nproved'),
             Place("crates/gate_send/stdout", r"\Agate_send (?P<name>[\d.]+)$"),
-            Place("docs/VERSIONS.md", r"^Today's program is version \*\*(?P<name>[\d.]+)\*\*"),
-            Place("docs/VERSIONS.md", r"` (?P<name>[\d.]+)", r"^\| File ", r"$"),
+            Place("docs/reference/VERSIONS.md", r"^Today's program is version \*\*(?P<name>[\d.]+)\*\*"),
+            Place("docs/reference/VERSIONS.md", r"` (?P<name>[\d.]+)", r"^\| File ", r"$"),
             Place("CHANGELOG.md", r"^## (?P<name>[\d.]+)", "", r"^New:|^Changed:|^Corrected:"),
             Place("README.md", r"^Version (?P<name>[\d.]+) "),
+            Place("tools/pyproject.toml", r'^version = "(?P<name>[\d.]+)"$'),
         ]),
     "the journal's version": (
         Place("crates/tap_journal/src/layout.rt", r"const VERSION: u8 = b'(?P<code>\d)';"), [
-            Place("docs/VERSIONS.md", r"^\| journal .*? \| (?P<code>\d), `OYSTERJ"),
-            Place("docs/VERSIONS.md", r"^\| a gate's file .*? \| (?P<code>\d), "),
-            Place("docs/VERSIONS.md", r"^\| journal `OYSTERJ(?P<code>\d)` \| yes"),
-            Place("scripts/model.py", r'^VERSION = b"OYSTERJ(?P<code>\d)"$'),
+            Place("docs/reference/VERSIONS.md", r"^\| journal .*? \| (?P<code>\d), `OYSTERJ"),
+            Place("docs/reference/VERSIONS.md", r"^\| a gate's file .*? \| (?P<code>\d), "),
+            Place("docs/reference/VERSIONS.md", r"^\| journal `OYSTERJ(?P<code>\d)` \| yes"),
+            Place("tools/bovtrila/layout.py", r'^VERSION = b"OYSTERJ(?P<code>\d)"$'),
             Place("clients/c/bovtrila_gate.c", r"VERSION = '(?P<code>\d)'"),
         ]),
     "the version of the library for gates": (
         Place("clients/c/bovtrila_gate.h", r'^#define BOVTRILA_VERSION "(?P<name>[\d.]+)"$'), [
-            Place("docs/VERSIONS.md", r"^\| library for gates .*? \| (?P<name>[\d.]+), ABI"),
+            Place("docs/reference/VERSIONS.md", r"^\| library for gates .*? \| (?P<name>[\d.]+), ABI"),
         ]),
     **{f"the {part} number of the library for gates": (
         Place(HEADER, rf"^#define BOVTRILA_VERSION_{part.upper()} (?P<code>\d+)$"), [
@@ -153,7 +154,7 @@ FACTS: dict[str, tuple[Place | Read, list[Place]]] = {
         ]) for place, part in enumerate(("major", "minor", "patch"))},
     "the ABI of the library for gates": (
         Place("clients/c/Makefile", r"^SONAME = (?P<name>\S+)$"), [
-            Place("docs/VERSIONS.md", r"^\| library for gates .*?, ABI `(?P<name>[^`]+)`"),
+            Place("docs/reference/VERSIONS.md", r"^\| library for gates .*?, ABI `(?P<name>[^`]+)`"),
         ]),
 }
 

@@ -14,7 +14,7 @@ LETTERS = {1: "b", 2: "h", 4: "i", 8: "q"}
 
 
 def type_of(field: Field) -> str:
-    """A field with its type, as docs/PROTOCOL.md has it."""
+    """A field with its type, as docs/reference/PROTOCOL.md has it."""
     if not field.is_number:
         return f"{field.name} of {field.size} bytes"
     return f"{field.name} `{'i' if field.is_signed else 'u'}{8 * field.size}`"
@@ -149,7 +149,7 @@ def history(acts: list[Act]) -> list[Region]:
     return [Region(ROWS, "acts", tuple([
         "# Whether the fields card, station and pence are filled, by act.",
         *table("FILLED", (f"{quoted(act.word)}: {act.filled}" for act in acts)),
-        "# The verdicts of docs/FARES.md by act: those that accept it, and those that refuse it.",
+        "# The verdicts of FARES.md by act: those that accept it, and those that refuse it.",
         *table("ACCEPTED", verdicts_of(acts, "accepted")),
         *table("REFUSED", verdicts_of(acts, "refused"))]))]
 

@@ -1,14 +1,16 @@
-"""Reads in packaging/ what docs/OPERATING.md has of it: the settings of units, and the addresses."""
+"""Reads in packaging/ what docs/operate/OPERATING.md has of it: the settings of units, and the addresses."""
 import pathlib
 import re
 
 from fact_code import Wrong, text_of
 from fact_regions import Region
 
-PAGE = "docs/OPERATING.md"
+PAGE = "docs/operate/OPERATING.md"
+EXPORTER = "tools/bovtrila/commands/exporter.py"
 # Where each address is set, and how it is read there.
 ADDRESSES = {"packaging/serve.conf": r"^listen = (.+)$", "packaging/stunnel/bovtrila.conf": r"^accept = :::(\d+)$",
-             "packaging/stunnel/gate.conf": r"^accept = (.+)$", "scripts/exporter": r'^PLACE = \("(.+)", (\d+)\)$'}
+             "packaging/haproxy/bovtrila.cfg": r"^    setenv LISTEN .*:::(\d+)$",
+             "packaging/stunnel/gate.conf": r"^accept = (.+)$", EXPORTER: r'^PLACE = \("(.+)", (\d+)\)$'}
 
 
 def settings(top: pathlib.Path, unit: str) -> dict[str, str]:
@@ -48,10 +50,11 @@ def addresses(top: pathlib.Path) -> Region:
         found = re.search(form, text_of(top, file), re.M)
         if not found:
             raise Wrong(f"{file}: no address is there; scripts/dev/fact_packaging.py has to be changed with it")
-        rows.append(f"`{file.rpartition('/')[2]}` | {':'.join(found.groups())}")
+        name = "bovtrila-exporter" if file == EXPORTER else file.rpartition("/")[2]
+        rows.append(f"`{name}` | {':'.join(found.groups())}")
     return Region(PAGE, "addresses", ("Set in | Address or port | Listens there", *rows), by_hand=1)
 
 
 def regions(top: pathlib.Path) -> list[Region]:
-    """The regions of docs/OPERATING.md."""
+    """The regions of docs/operate/OPERATING.md."""
     return [units(top), addresses(top)]

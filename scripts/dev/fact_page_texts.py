@@ -1,7 +1,6 @@
 """The tables of pages whose first columns come from the code, and whose last ones are written by hand in the page."""
 import pathlib
 import re
-import sys
 
 import fact_code
 import fact_faults
@@ -11,11 +10,9 @@ import script_help
 from fact_code import Wrong, text_of
 from fact_regions import Region
 
-sys.path.append(f"{sys.path[0]}/..")
-
 import program
 
-TABLE, LINES, COMMANDS, FARES = "docs/TABLE.md", "docs/FAULTS.md", "docs/COMMANDS.md", "docs/FARES.md"
+TABLE, LINES, COMMANDS, FARES = (f"docs/reference/{name}.md" for name in ("TABLE", "FAULTS", "COMMANDS", "FARES"))
 STAMP = "crates/money_time/src/stamp.rt"
 # The tables of faults: the page and the region, the program, and the words after `fault` of the lines that the table has.
 FAULTS = {(TABLE, "faults"): ("bovtrila", ("table",)),

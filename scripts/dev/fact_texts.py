@@ -82,13 +82,18 @@ class Faults:
 
 
 def carrying(limits: dict[str, int]) -> Region:
-    """The limits that scripts/carry-over keeps to."""
+    """The limits that bovtrila-carry-over keeps to."""
     found = ", ".join(f"{limits[name]:_}" for name in ("CARD_LIMIT", "TOP_UP_LIMIT", "HIGHEST_BALANCE"))
     return Region(CARRYING, "limits", (f"CARDS, TOP_UP, LIMITS = {found}",))
+
+
+def fare_day(limits: dict[str, int]) -> Region:
+    """The minute with which a fare day begins, for pages and messages."""
+    return Region(TALLY, "fare day", (f"FARE_DAY = {limits['FARE_DAY_START']}",))
 
 
 def regions(top: pathlib.Path) -> list[Region]:
     """All regions of a tree, as they have to be."""
     limits = fact_code.limits(top)
     return [*Verdicts(top, limits).regions(), *Faults(top, limits).regions(), *fact_frame_texts.regions(top, limits),
-            *fact_page_texts.regions(top), *fact_packaging.regions(top), carrying(limits)]
+            *fact_page_texts.regions(top), *fact_packaging.regions(top), carrying(limits), fare_day(limits)]

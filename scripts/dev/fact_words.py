@@ -7,12 +7,12 @@ import fact_code
 from fact_code import Wrong
 
 WORDS = "scripts/dev/facts.toml"
-PAGE = "docs/PROTOCOL.md"
+PAGE = "docs/reference/PROTOCOL.md"
 HEADER = "clients/c/bovtrila_gate.h"
 SOURCE = "clients/c/bovtrila_gate.c"
 LUA = "clients/wireshark/bovtrila.lua"
-WIRE = "scripts/wire.py"
-TALLY, ROWS, CARRYING = "scripts/day_tally.py", "scripts/history_rows.py", "scripts/carry-over"
+WIRE = "tools/bovtrila/wire.py"
+TALLY, ROWS, CARRYING = "tools/bovtrila/day_tally.py", "tools/bovtrila/history_rows.py", "tools/bovtrila/commands/carry_over.py"
 # The most characters of a line of code.
 WIDTH = 120
 

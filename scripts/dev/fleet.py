@@ -14,7 +14,7 @@ class Load(NamedTuple):
     flushes: float
 
 
-# A journal's header, its slots and the mark behind the last one, in bytes (docs/OPERATING.md, "Room on the disk").
+# A journal's header, its slots and the mark behind the last one, in bytes (docs/operate/OPERATING.md, "Room on the disk").
 HEADER, SLOT, END = 64, 64, 1
 # Where the statistics of a disk have how many flushes it has ended.
 FLUSHES = 15

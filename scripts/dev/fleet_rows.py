@@ -3,16 +3,8 @@ import contextlib
 import sys
 from typing import TypedDict
 
-from harness import TOP
 
-sys.path.append(str(TOP / "network"))
-
-import accounts
-import compare
-import database
-import fares
-import gates
-import journeys
+from bovtrila.network import accounts, compare, database, fares, gates, journeys
 
 # The first of the fare days, and how many cards each server has.
 FIRST, CARDS = "2025-01-01", 2_000

@@ -20,8 +20,7 @@ def pages() -> dict[str, str]:
 def is_of_sources(text: str, path: str) -> bool:
     """Whether a text says where it first names a path that it is one of the sources, and it is."""
     first = re.search(rf"(?<![\w/.]){re.escape(path)}/?(?![\w/])[^`\n]*?`? of the\s+sources", text)
-    found = installed.TOP / path
-    return bool(first) and (found.exists() or any((installed.TOP / folder / path).exists() for folder in (".", "docs")))
+    return bool(first) and ((installed.TOP / path).exists() or any((installed.TOP / "docs").glob(f"*/{path}")))
 
 
 def faults(name: str, texts: Mapping[str, str], cited: re.Pattern[str], own: re.Pattern[str],

@@ -1,6 +1,6 @@
 """Shared by the measuring scripts: their options, runs in turn, figures, and tables. They have no pass or fail.
 
-A table follows a line with its name, both in a script's output and in docs/MEASUREMENTS.md, into which
+A table follows a line with its name, both in a script's output and in docs/develop/MEASUREMENTS.md, into which
 scripts/dev/measure-all copies the output."""
 import argparse
 import re

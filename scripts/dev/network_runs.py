@@ -1,4 +1,4 @@
-"""Runs of the commands in network/ that are measured, and what they leave in PostgreSQL: for scripts/dev/measure-network and
+"""Runs of the commands of a network that are measured, and what they leave in PostgreSQL: for scripts/dev/measure-network and
 scripts/dev/measure-fleet."""
 import os
 import pathlib
@@ -8,8 +8,8 @@ import time
 from collections.abc import Collection, Sequence
 from typing import IO
 
-import model
 import postgres
+from bovtrila import layout
 
 # What stands before each command that is measured.
 BEFORE: list[str] = []
@@ -49,7 +49,7 @@ def spent(cluster: postgres.Cluster | None) -> float:
 def beginning(journal: pathlib.Path, count: int, path: pathlib.Path) -> pathlib.Path:
     """The journal of the first touches of another."""
     with open(journal, "rb") as file:
-        path.write_bytes(file.read(model.HEADER + model.SLOT * count) + b"\0")
+        path.write_bytes(file.read(layout.HEADER + layout.SLOT * count) + b"\0")
     return path
 
 

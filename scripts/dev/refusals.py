@@ -9,12 +9,13 @@ A wrong body is a file crates/NAME/must-fail/EDIT.edit or crates/NAME/wrong-bodi
   answers: NAME.answers        a file in crates/NAME/right-answers/: the written answers of the changed function for the form
                                of both bodies, if that isn't the form of the present body. Its name
                                doesn't end in .antt, since rt refuses such a file that none of its checks reads
-  refused by: FUNCTION.LABEL   the clause that stays unproved for this body, as in docs/proofs/; spaces separate several
+  refused by: FUNCTION.LABEL   the clause that stays unproved for this body, as docs/develop/proofs/ names it; several
+                               have a space between
 
-Each has the last of these lines. FUNCTION is a function as docs/proofs/ names it, LABEL the label of one of its clauses, or
-`ensures` for a clause without one. A function in an impl of a trait may name a clause of the trait's function, and a
-`ghost` member of the impl, as `From::from_gives`. The precondition of a call, the invariant of a type, and the invariant or
-measure of a loop are named by their goals: `Desk::learn.invariant_of-self`, `spans_of.spans-preserved`,
+Each has the last of these lines. FUNCTION is a function as docs/develop/proofs/ names it, LABEL the label of one of its
+clauses, or `ensures` for a clause without one. A function in an impl of a trait may name a clause of the trait's function,
+and a `ghost` member of the impl, as `From::from_gives`. The precondition of a call, the invariant of a type, and the
+invariant or measure of a loop are named by their goals: `Desk::learn.invariant_of-self`, `spans_of.spans-preserved`,
 `write_whole.loop-at-preserved`. `Examples.NAME` is the example of that name in proofs/Examples.antt. `rt` reads only the
 first three lines.
 """
@@ -255,8 +256,8 @@ def read_told(out: str) -> tuple[dict[str, Said], list[str]]:
 
 
 def is_named(path: str, function: str) -> bool:
-    """Whether FUNCTION, as docs/proofs/ has it, is the function that the checker tells by this path. A trait's method
-    stands there under the type's name with the trait's behind it."""
+    """Whether FUNCTION, as docs/develop/proofs/ has it, is the function that the checker tells by this path. A trait's
+    method stands there under the type's name with the trait's behind it."""
     own, wanted = path.split("::"), function.split("::")
     if own[-1] != wanted[-1]:
         return False

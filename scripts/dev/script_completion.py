@@ -14,10 +14,10 @@ _@FUNCTION@_files() {
 }
 
 _@FUNCTION@() {
-    local current=$2 act=${COMP_WORDS[1]-} options="" files="" word at
+    local current=$2 act=@ACT@ options="" files="" word at
     COMPREPLY=()
     for ((at = 1; at < COMP_CWORD; at++)); do
-        case "$at ${COMP_WORDS[COMP_CWORD - at]}" in
+        case "$act $at ${COMP_WORDS[COMP_CWORD - at]}" in
 @VALUES@
         esac
     done
@@ -51,14 +51,15 @@ def spaced(options: Iterable[Item]) -> str:
 
 def bash_values(said: Help, function: str) -> list[str]:
     """The branches for what follows an option with values: a file, one of some words, or something of which nothing is known.
-    Each begins with the value's place."""
+    Each begins with the act, if there are several, and the value's place."""
     by_act: dict[str, dict[str, None]] = {}
-    for item in (item for one in (said, *said.acts.values()) for item in one.options):
+    for name_of_act, item in ((name, item) for name, one in parts(said).items() for item in one.options):
         for place, value in enumerate(script_help.values(item), 1):
             act = f'_{function}_files "$current"; return' if script_help.is_file(value) else "return"
             if script_help.choices(item):
                 act = f'mapfile -t COMPREPLY < <(compgen -W "{" ".join(script_help.choices(item))}" -- "$current"); return'
-            by_act.setdefault(act, {}).update((f'"{place} {name}"', None) for name in script_help.names(item))
+            by_act.setdefault(act, {}).update(
+                (f'"{name_of_act} {place} {name}"', None) for name in script_help.names(item))
     return [f"            {' | '.join(places)}) {act} ;;" for act, places in by_act.items()] or ["            *) ;;"]
 
 
@@ -80,8 +81,9 @@ def bash(name: str, said: Help) -> str:
     apart = [f'            {act or "*"}" {one}") {"; ".join(f"options=${{options/ {other} / }}" for other in others)} ;;'
              for act, own in parts(said).items() for one, others in script_help.conflicts(own.options).items()]
     function, text = re.sub(r"\W", "_", name), BASH
-    for mark, filled in (("FUNCTION", function), ("NAME", name), ("VALUES", "\n".join(bash_values(said, function))),
-                         ("ACTS", "\n".join(bash_acts(said))), ("CONFLICTS", "\n".join(apart or ["            *) ;;"]))):
+    for mark, filled in (("FUNCTION", function), ("NAME", name), ("ACT", "${COMP_WORDS[1]-}" if said.acts else '""'),
+                         ("VALUES", "\n".join(bash_values(said, function))), ("ACTS", "\n".join(bash_acts(said))),
+                         ("CONFLICTS", "\n".join(apart or ["            *) ;;"]))):
         text = text.replace(f"@{mark}@", filled)
     return text
 

@@ -1,5 +1,5 @@
-"""The command line of a program or of an installed script, read from its own --help: for docs/COMMANDS.md, its page of the
-manual and its completion."""
+"""The command line of a program or of an installed script, read from its own --help: for docs/reference/COMMANDS.md, its
+page of the manual and its completion."""
 from __future__ import annotations
 
 import os

@@ -280,10 +280,10 @@ def logic() -> str:
 
 
 def base_of(top: pathlib.Path, name: str) -> hashlib._Hash:
-    """What each text that is tried in a crate rests on, as the beginning of its digest."""
+    """What each text that is tried in a crate rests on, as the beginning of its digest: comments change nothing of it."""
     rests = hashlib.sha256(logic().encode())
     crate = top / "crates" / name
-    for text in texts(crate, ("src", "specs", "proofs")):
+    for text in texts(crate, ("src", "specs", "proofs"), without_comments):
         rests.update(text.encode())
     for library in libraries(top, name):
         seen: dict[str, Callable[[str], str]] = {"src": caller_sees, "specs": without_comments}
