@@ -10,15 +10,32 @@
 #include <stdio.h>
 #include <stdlib.h>
 #include <sys/types.h>
+#include <time.h>
 #include <unistd.h>
 
 #include "../bovtrila_gate.h"
+
+/* Opens the file, which only this program opens. A program that lists the open files of all processes, as lsof does, holds
+   each for a moment; if it is closed in that moment, its lock is given back a moment later. So an opening that finds it in
+   use is tried again for up to 10 seconds. */
+static bovtrila_file open_it(const bovtrila_options *options, bovtrila_gate **gate)
+{
+    static const struct timespec pause = {0, 10000000};
+    bovtrila_file said = bovtrila_open(options, gate);
+
+    for (int tries = 0; said.cause == BOVTRILA_FILE_IN_USE && tries < 1000; tries++) {
+        bovtrila_close(*gate);
+        nanosleep(&pause, NULL);
+        said = bovtrila_open(options, gate);
+    }
+    return said;
+}
 
 static void try_it(const bovtrila_options *options)
 {
     bovtrila_gate *gate;
     bovtrila_touch touch = {0};
-    bovtrila_file said = bovtrila_open(options, &gate);
+    bovtrila_file said = open_it(options, &gate);
 
     if (said.cause == BOVTRILA_FILE_OK)
         bovtrila_waiting(gate, &touch);
