@@ -12,5 +12,5 @@ mod zone;
 
 pub use date::day_of;
 pub use fault::TimeFault;
-pub use stamp::{Stamp, Window};
+pub use stamp::{FARE_DAY_START, Stamp, Window};
 pub use zone::Zone;

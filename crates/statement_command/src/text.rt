@@ -7,7 +7,7 @@ use crate::words::{balance_pence, band_word, cap_word, sign_word, verdict_word};
 use card_statement::{Incomplete, JourneyRow, Reason, TopUp};
 use fare_schedule::Schedule;
 use fare_table::Cap;
-use money_time::Stamp;
+use money_time::{FARE_DAY_START, Stamp};
 use oyster_account::{Act, Passage};
 use std::alloc::{AllocError, Global};
 
@@ -15,8 +15,6 @@ use std::alloc::{AllocError, Global};
 const POUND: u64 = 100;
 /// The minutes of an hour.
 const HOUR: u16 = 60;
-/// The minute of the clock with which a fare day begins: 04:30.
-const FARE_DAY_START: u16 = 270;
 
 /// Adds what a line prints.
 pub(crate) fn put_text(
