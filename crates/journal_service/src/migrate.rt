@@ -16,6 +16,7 @@ use crate::disks::{JournalFiles, SystemDisks};
 use command_line::Migrate;
 use console::WholeFiles;
 use journal_audit::{CommandFault, OpenedBy, explained, tell_end};
+use reply_book::NameHashing;
 use std::alloc::Global;
 use std::fs::File;
 use std::io;
@@ -67,13 +68,17 @@ pub fn migrate_journal<
 /// The same, from one file of the system to another, with what stands behind the line of a fault.
 pub fn explained_migrate<R: AllocGlobal + Files<File = File> + Eprint, F: WholeFiles, W: Write>(
     rt: &R,
+    hashing: NameHashing,
     files: &F,
     asked: &Migrate<'_>,
     output: &mut W,
 ) -> Result<ExitCode, CommandFault> {
     match migrate_journal(rt, files, &SystemDisks::new(rt), asked, output) {
         Ok(status) => Ok(status),
-        Err(fault) => Err(explained(rt.alloc(), files, OpenedBy::migrate(asked), fault)),
+        Err(fault) => {
+            let opened = OpenedBy::migrate(asked);
+            Err(explained(rt.alloc(), hashing, files, opened, fault))
+        }
     }
 }
 

@@ -20,6 +20,7 @@ use money_time::Zone;
 use office_lines::{
     GateLine, Lines, Notices, Post, ServeFault, Service, TcpLines, Watch, Watched, serve_office,
 };
+use reply_book::NameHashing;
 use std::alloc::Global;
 use std::fs::File;
 use std::io;
@@ -68,7 +69,7 @@ struct Terms<'a> {
 /// its end. One on standby waits for a journal that another server has.
 pub fn serve_gates<
     R: System + Files<File = File> + Net<Listener = TcpListener, Stream = TcpStream>,
->(rt: &R, asked: &Serve<'_>) -> Result<ExitCode, CommandFault>
+>(rt: &R, hashing: NameHashing, asked: &Serve<'_>) -> Result<ExitCode, CommandFault>
     requires { IsServeAllowed asked.now }
 {
     let files = SystemFiles::new(rt);
@@ -77,12 +78,13 @@ pub fn serve_gates<
     let zone = Zone::read(first.zone_text()).ok();
     let schedule = schedule_of(rt.alloc(), &files, first, asked.revisions.as_slice())?;
     let disk = journal_disk(rt, &digest, asked)?;
-    serve_journal(rt, disk, schedule, zone, asked)
+    serve_journal(rt, hashing, disk, schedule, zone, asked)
 }
 
 /// Opens the office of the journal on a disk, by a schedule without a revision, and serves it.
 fn serve_journal<R: System + Files<File = File> + Net<Listener = TcpListener, Stream = TcpStream>>(
     rt: &R,
+    hashing: NameHashing,
     disk: FileDisk,
     schedule: Schedule,
     zone: Option<Zone>,
@@ -91,7 +93,7 @@ fn serve_journal<R: System + Files<File = File> + Net<Listener = TcpListener, St
     requires unrevised { revisions_of schedule ≡ [] }
     requires allowed { IsServeAllowed asked.now }
 {
-    match read_opening(rt, disk, schedule, asked) {
+    match read_opening(rt, hashing, disk, schedule, asked) {
         Ok(opening) => serve_opening::<Brand, FileDisk, R>(rt, opening, zone, asked),
         Err(fault) => Err(fault),
     }
@@ -101,6 +103,7 @@ fn serve_journal<R: System + Files<File = File> + Net<Listener = TcpListener, St
 /// one that is strict goes on where at most two open slots stand behind the journal's end.
 fn read_opening<D: Disk + Drop, R: AllocGlobal + Files>(
     rt: &R,
+    hashing: NameHashing,
     disk: D,
     schedule: Schedule,
     asked: &Serve<'_>,
@@ -111,13 +114,13 @@ fn read_opening<D: Disk + Drop, R: AllocGlobal + Files>(
         → HasFewBehind (D.content disk)) }
 {
     let seats = asked.lines as u16;
-    match Opening::read(rt.alloc(), disk, schedule, asked.cards, seats) {
+    match Opening::read(rt.alloc(), hashing, disk, schedule, asked.cards, seats) {
         Ok(opening) => {
             look_behind(rt.alloc(), asked.journal, opening.behind(), asked.strict)?;
             Ok(opening)
         }
         Err(OpenFault { disk, cause }) => {
-            Err(unopened_fault(rt, asked, cause.into(), disk.error()))
+            Err(unopened_fault(rt, hashing, asked, cause.into(), disk.error()))
         }
     }
 }
@@ -125,13 +128,14 @@ fn read_opening<D: Disk + Drop, R: AllocGlobal + Files>(
 /// The fault of a journal that isn't opened, with what stands behind its line.
 fn unopened_fault<R: AllocGlobal + Files>(
     rt: &R,
+    hashing: NameHashing,
     asked: &Serve<'_>,
     fault: CommandFault,
     said: Option<SystemError>,
 ) -> CommandFault {
     let fault = device_fault(rt.alloc(), asked, fault, said);
     let files = SystemFiles::new(rt);
-    explained(rt.alloc(), &files, OpenedBy::serve(asked), fault)
+    explained(rt.alloc(), hashing, &files, OpenedBy::serve(asked), fault)
 }
 
 /// Makes the office of an opening, by its name, listens, and serves it.

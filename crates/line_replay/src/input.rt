@@ -9,6 +9,7 @@ ghost use Rattle.line_replay.specs.Input.{IsWhole, IsUnasked, HasReplayed, HasEn
 
 use crate::replay::replay_text;
 use console::{TURNS, TrialFault, WholeFiles};
+use reply_book::NameHashing;
 use std::alloc::Global;
 use std::io::{Read, Write};
 use std::process::ExitCode;
@@ -20,6 +21,7 @@ use table_check::tables_in;
 /// the answers then.
 pub fn replay_input<F: WholeFiles, R: Read, W: Write>(
     alloc: Global,
+    hashing: NameHashing,
     files: &F,
     table: Option<&str>,
     revisions: &[&str],
@@ -42,6 +44,6 @@ pub fn replay_input<F: WholeFiles, R: Read, W: Write>(
         (W.contents writer.old) (W.contents writer.new) fault) }
 {
     let schedule = tables_in(alloc, files, table, revisions)?;
-    replay_text(alloc, schedule, cards, reader, writer, TURNS)?;
+    replay_text(alloc, hashing, schedule, cards, reader, writer, TURNS)?;
     Ok(ExitCode::SUCCESS)
 }

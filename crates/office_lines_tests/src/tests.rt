@@ -6,6 +6,7 @@ mod sessions;
 
 use fare_schedule::Schedule;
 use fare_table::{EXAMPLE_TABLE, Fares};
+use reply_book::NameHashing;
 use std::alloc::Global;
 use std::fmt::Debug;
 use std::process::Abort;
@@ -40,5 +41,5 @@ fn new_opening(alloc: Global, capacity: u32, seats: u16) -> Option<Opening<Memor
     let fares = Fares::read(alloc, EXAMPLE_TABLE).ok()?;
     let disk = new_disk(alloc, &fares.digest(), capacity)?;
     let schedule = Schedule::new(alloc, fares).ok()?;
-    Opening::read(alloc, disk, schedule, 10, seats).ok()
+    Opening::read(alloc, NameHashing::fixed(), disk, schedule, 10, seats).ok()
 }

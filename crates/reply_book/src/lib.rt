@@ -6,6 +6,7 @@
 mod book;
 mod entry;
 mod fault;
+mod hashing;
 mod judged;
 mod kept;
 mod laws;
@@ -15,6 +16,7 @@ mod replay;
 pub use book::{Book, CARD_LIMIT};
 pub use entry::{Entry, Found};
 pub use fault::ReplayFault;
+pub use hashing::{NameHasher, NameHashing};
 pub use judged::JudgedTouch;
 pub use laws::{
     books_grow, finds_exactly, first_for_ever, first_table_alone, legs_take_nothing, one_book,

@@ -5,6 +5,7 @@ use crate::journal::write_statement;
 use command_line::Statement;
 use console::WholeFiles;
 use journal_audit::{CommandFault, OpenedBy, Settled, explained, settled_file, tell_many};
+use reply_book::NameHashing;
 use std::io::Write;
 use std::process::ExitCode;
 use table_check::tables_in;
@@ -17,6 +18,7 @@ use table_check::tables_in;
 /// end are valid than crashes leave.
 pub fn tell_statement<R: AllocGlobal + Eprint, F: WholeFiles, W: Write>(
     rt: &R,
+    hashing: NameHashing,
     files: &F,
     asked: &Statement<'_>,
     writer: &mut W,
@@ -30,6 +32,7 @@ pub fn tell_statement<R: AllocGlobal + Eprint, F: WholeFiles, W: Write>(
     };
     write_statement(
         alloc,
+        hashing,
         schedule,
         asked.card,
         days,
@@ -44,13 +47,14 @@ pub fn tell_statement<R: AllocGlobal + Eprint, F: WholeFiles, W: Write>(
 /// Prints the statement of a card, with the second line of a fault.
 pub fn explained_statement<R: AllocGlobal + Eprint, F: WholeFiles, W: Write>(
     rt: &R,
+    hashing: NameHashing,
     files: &F,
     asked: &Statement<'_>,
     output: &mut W,
 ) -> Result<ExitCode, CommandFault> {
-    match tell_statement(rt, files, asked, output) {
+    match tell_statement(rt, hashing, files, asked, output) {
         Ok(status) => Ok(status),
-        Err(fault) => Err(explained(rt.alloc(), files, opened_by(asked), fault)),
+        Err(fault) => Err(explained(rt.alloc(), hashing, files, opened_by(asked), fault)),
     }
 }
 

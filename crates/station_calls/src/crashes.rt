@@ -16,6 +16,7 @@ use fare_schedule::Schedule;
 use gate_client::Client;
 use gate_law::{SettleFault, ask_in_steps, crash_in_steps};
 use oyster_account::{Act, Reply};
+use reply_book::NameHashing;
 use std::alloc::Global;
 use std::sync::Wait;
 use tap_disk::{Choice, Disk, MemoryDisk};
@@ -72,7 +73,7 @@ pub fn reopen_in_steps<N: Named, R: Wait>(
     let Ok(left) = disk.crash(choice) else {
         return None;
     };
-    match read_in_steps(alloc, left, schedule, cards, count) {
+    match read_in_steps(alloc, NameHashing::fixed(), left, schedule, cards, count) {
         Ok(opening) => Some(opening),
         Err(_) => None,
     }

@@ -9,6 +9,7 @@ ghost use Rattle.station_calls.specs.Shown.{IsShownBy};
 ghost use Rattle.station_calls.specs.Openings.{IsReopening, found_in};
 
 use fare_schedule::Schedule;
+use reply_book::NameHashing;
 use std::alloc::Global;
 use std::sync::Wait;
 use tap_disk::Disk;
@@ -25,6 +26,7 @@ use tap_office::{Desk, Keeper, Named, Opening, Seat, the_lock_keeps};
 /// Each fault comes as `Opening::read` says, with the disk.
 pub fn read_in_steps<D: Disk>(
     alloc: Global,
+    hashing: NameHashing,
     disk: D,
     schedule: Schedule,
     cards: u32,
@@ -34,7 +36,7 @@ pub fn read_in_steps<D: Disk>(
     ensures opening { IfOk result (IsOpeningOf (tables_in schedule) cards seats) }
     ensures steps { IfOk result (λ o. D.honest o.disk → IsReopening (D.content disk) o) }
 {
-    Opening::read(alloc, disk, schedule, cards, seats)
+    Opening::read(alloc, hashing, disk, schedule, cards, seats)
 }
 
 /// Makes the keeper of an opening, as `Opening::keeper` does: it shows the station that the opening

@@ -5,8 +5,10 @@
 use command_line::{Arguments, Check, arguments_of, refuse_command, words_of};
 use console::{SystemFiles, TrialFault, tell_fault};
 use line_replay::replay_input;
+use reply_book::NameHashing;
 use std::io;
 use std::process::ExitCode;
+use std::random::RandomSource;
 use std::rt::{Env, Files};
 use table_check::{check_file, tell_changes, tell_fare};
 
@@ -19,7 +21,7 @@ fn main(rt: HostRuntime) -> io::Result<ExitCode> {
 
 /// Does what the command line asks for, and answers the status. The commands over a journal are
 /// refused.
-fn run<R: AllocGlobal + Env + Files + Input + Print + Eprint>(
+fn run<R: AllocGlobal + Env + Files + Input + Print + Eprint + RandomSource>(
     rt: &R,
 ) -> Result<ExitCode, TrialFault> {
     let words = words_of(rt)?;
@@ -33,6 +35,7 @@ fn run<R: AllocGlobal + Env + Files + Input + Print + Eprint>(
             revisions,
         } => replay_input(
             rt.alloc(),
+            NameHashing::random(rt),
             &files,
             table,
             revisions.as_slice(),

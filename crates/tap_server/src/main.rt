@@ -11,12 +11,14 @@ use journal_audit::{
 };
 use journal_service::{System, explained_migrate, serve_gates, standard_files};
 use line_replay::replay_input;
+use reply_book::NameHashing;
 use statement_command::explained_statement;
 use std::fs::File;
 use std::io;
 use std::io::Write;
 use std::net::{Net, TcpListener, TcpStream};
 use std::process::ExitCode;
+use std::random::RandomSource;
 use std::rt::{Env, Files};
 use table_check::{check_file, tell_changes, tell_fare};
 
@@ -30,7 +32,12 @@ fn main(rt: HostRuntime) -> io::Result<ExitCode> {
 /// Does what the command line asks for, and answers the status. What standard output refuses is
 /// told with its reason, and nothing is told where nobody reads it any more.
 fn run<
-    R: System + Env + Input + Files<File = File> + Net<Listener = TcpListener, Stream = TcpStream>,
+    R: System
+        + Env
+        + Input
+        + RandomSource
+        + Files<File = File>
+        + Net<Listener = TcpListener, Stream = TcpStream>,
 >(rt: &R) -> Result<ExitCode, CommandFault> {
     let mut output = Output::over(io::writer(rt));
     match done(rt, &mut output) {
@@ -41,12 +48,18 @@ fn run<
 
 /// Does what the command line asks for, with standard output, and answers the status.
 fn done<
-    R: System + Env + Input + Files<File = File> + Net<Listener = TcpListener, Stream = TcpStream>,
+    R: System
+        + Env
+        + Input
+        + RandomSource
+        + Files<File = File>
+        + Net<Listener = TcpListener, Stream = TcpStream>,
     W: Write,
 >(rt: &R, output: &mut W) -> Result<ExitCode, CommandFault> {
     let words = words_of(rt)?;
     let words: Vec<&str> = words.iter().map(|word| word.as_str()).collect(rt.alloc())?;
     let files = SystemFiles::new(rt);
+    let hashing = NameHashing::random(rt);
     match arguments_of(rt.alloc(), words.as_slice())? {
         Arguments::Replay {
             table,
@@ -54,6 +67,7 @@ fn done<
             revisions,
         } => Ok(replay_input(
             rt.alloc(),
+            hashing,
             &files,
             table,
             revisions.as_slice(),
@@ -72,12 +86,12 @@ fn done<
         }
         Arguments::Serve(asked) => {
             let _held = standard_files(rt);
-            serve_gates(rt, &asked)
+            serve_gates(rt, hashing, &asked)
         }
-        Arguments::Migrate(asked) => explained_migrate(rt, &files, &asked, output),
-        Arguments::Verify(asked) => explained_verify(rt, &files, &asked, output),
-        Arguments::History(asked) => explained_history(rt, &files, &asked, output),
-        Arguments::Balances(asked) => explained_balances(rt, &files, &asked, output),
-        Arguments::Statement(asked) => explained_statement(rt, &files, &asked, output),
+        Arguments::Migrate(asked) => explained_migrate(rt, hashing, &files, &asked, output),
+        Arguments::Verify(asked) => explained_verify(rt, hashing, &files, &asked, output),
+        Arguments::History(asked) => explained_history(rt, hashing, &files, &asked, output),
+        Arguments::Balances(asked) => explained_balances(rt, hashing, &files, &asked, output),
+        Arguments::Statement(asked) => explained_statement(rt, hashing, &files, &asked, output),
     }
 }

@@ -1,6 +1,7 @@
 //! The command `replay`, over files by hand, and with what is written worked out by hand.
 use crate::tests::of_console::{FILES, answered, assert_same_at};
 use line_replay::replay_input;
+use reply_book::NameHashing;
 use std::test::Fail;
 
 #[test]
@@ -21,6 +22,7 @@ fn a_replay_answers_by_the_tables_of_its_words(rt: HostRuntime) -> Result<(), Fa
         let (mut reader, mut written) = (line.as_bytes(), Vec::new(alloc));
         let answer = replay_input(
             alloc,
+            NameHashing::fixed(),
             &FILES,
             Some(table),
             &[revision],

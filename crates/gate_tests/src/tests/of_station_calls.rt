@@ -9,6 +9,7 @@ use fare_table::{EXAMPLE_TABLE, Fares};
 use gate_client::{AskFault, Client, HearFault};
 use gate_law::{SettleFault, ask_in_steps, crash_in_steps};
 use oyster_account::Reply;
+use reply_book::NameHashing;
 use station_calls::{Plan, Round, keeper_in_steps, round_in_steps, settle_in_steps};
 use std::alloc::Global;
 use std::marker::Brand;
@@ -62,7 +63,14 @@ fn new_disk(rt: &impl Abort, alloc: Global) -> MemoryDisk {
 
 /// The opening of the journal on a disk.
 fn opened(rt: &impl Abort, alloc: Global, disk: MemoryDisk) -> Opening<MemoryDisk> {
-    match Opening::read(alloc, disk, new_schedule(rt, alloc), 10, 1) {
+    match Opening::read(
+        alloc,
+        NameHashing::fixed(),
+        disk,
+        new_schedule(rt, alloc),
+        10,
+        1,
+    ) {
         Ok(opening) => opening,
         Err(fault) => panic!(rt; "not opened: {:?}", fault.cause),
     }

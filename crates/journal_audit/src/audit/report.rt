@@ -13,6 +13,7 @@ use crate::audit::seal::check_seal;
 use crate::fault::AuditFault;
 use crate::touches::first_digest;
 use fare_schedule::Schedule;
+use reply_book::NameHashing;
 use std::alloc::Global;
 use tap_journal::read_alone;
 
@@ -21,6 +22,7 @@ use tap_journal::read_alone;
 /// it.
 pub(crate) fn report(
     alloc: Global,
+    hashing: NameHashing,
     schedule: Option<Schedule>,
     asked: &Asked,
     bytes: &[u8],
@@ -31,7 +33,7 @@ pub(crate) fn report(
     ensures fault { IfErr result (HasRefused (option_map tables_in schedule) asked.now bytes.now) }
 {
     let found = read_alone(alloc, bytes, first_digest(&schedule))?;
-    let revisions = revisions_entered(alloc, found.cards, schedule, &found.touches)?;
+    let revisions = revisions_entered(alloc, hashing, found.cards, schedule, &found.touches)?;
     check_header(asked, found.capacity, found.cards)?;
     let told = check_seal(&asked.seal, found.format, found.touches.len() as u32, bytes)?;
     let header = header_lines(alloc, &found)?;

@@ -17,6 +17,7 @@ use crate::commands::fault::CommandFault;
 use crate::commands::settled::settled_file;
 use command_line::Balances;
 use console::{Detail, Refusal, WholeFiles};
+use reply_book::NameHashing;
 use std::alloc::Global;
 use std::io;
 use std::io::Write;
@@ -33,6 +34,7 @@ use table_check::tables_in;
 /// end than crashes leave are noted on standard error before the sums.
 pub fn tell_balances<R: AllocGlobal + Eprint, F: WholeFiles, W: Write>(
     rt: &R,
+    hashing: NameHashing,
     files: &F,
     asked: &Balances<'_>,
     writer: &mut W,
@@ -58,7 +60,7 @@ pub fn tell_balances<R: AllocGlobal + Eprint, F: WholeFiles, W: Write>(
     let alloc = rt.alloc();
     let schedule = tables_in(alloc, files, Some(asked.table), asked.revisions.as_slice())?;
     let read = settled_file(rt, files, asked.journal)?;
-    let totals = write_balances(alloc, schedule, asked.at, &read.bytes, writer)?;
+    let totals = write_balances(alloc, hashing, schedule, asked.at, &read.bytes, writer)?;
     tell_many(rt, read.behind);
     match tell_totals(rt, &totals) {
         Ok(()) => Ok(ExitCode::SUCCESS),

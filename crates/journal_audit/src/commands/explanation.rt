@@ -20,7 +20,7 @@ use fare_schedule::Schedule;
 use jiff_core::civil::Date;
 use jiff_fmt::temporal::DateTimePrinter;
 use oyster_account::{Act, HISTORY_LIMIT, Touch};
-use reply_book::Book;
+use reply_book::{Book, NameHashing};
 use std::alloc::{AllocError, Global};
 use table_check::{first_table, tables_in};
 use tap_journal::{
@@ -133,13 +133,14 @@ impl<'a> OpenedBy<'a> {
 /// Where a file can't be read again, or without memory, nothing more is told.
 pub fn explained<F: WholeFiles>(
     alloc: Global,
+    hashing: NameHashing,
     files: &F,
     opened: OpenedBy<'_>,
     fault: CommandFault,
 ) -> CommandFault
     ensures { told_fault result ≡ told_fault fault }
 {
-    match detail_of(alloc, files, opened, cause_of(&fault)) {
+    match detail_of(alloc, hashing, files, opened, cause_of(&fault)) {
         Some(detail) => fault.with(detail),
         None => fault,
     }
@@ -157,6 +158,7 @@ fn cause_of(fault: &CommandFault) -> Option<JournalFault> {
 /// What stands behind the line of a fault for this cause, where there is more to tell.
 fn detail_of<F: WholeFiles>(
     alloc: Global,
+    hashing: NameHashing,
     files: &F,
     opened: OpenedBy<'_>,
     cause: Option<JournalFault>,
@@ -164,7 +166,9 @@ fn detail_of<F: WholeFiles>(
     let said = match cause {
         Some(JournalFault::WrongTable) => other_table_of(alloc, files, opened),
         Some(JournalFault::WrongCards) => other_cards_of(alloc, files, opened),
-        Some(JournalFault::MissingTable(place)) => missing_table_of(alloc, files, opened, place),
+        Some(JournalFault::MissingTable(place)) => {
+            missing_table_of(alloc, hashing, files, opened, place)
+        }
         Some(cause) if is_of_file(cause) => return Some(Detail::of_file(alloc, opened.journal)),
         _ => None,
     };
@@ -200,11 +204,12 @@ fn other_cards_of<F: WholeFiles>(alloc: Global, files: &F, opened: OpenedBy<'_>)
 /// The revision at this place, to a table that no file has.
 fn missing_table_of<F: WholeFiles>(
     alloc: Global,
+    hashing: NameHashing,
     files: &F,
     opened: OpenedBy<'_>,
     place: u32,
 ) -> Option<String> {
-    let wanted = wanted_in(alloc, files, opened, place)?;
+    let wanted = wanted_in(alloc, hashing, files, opened, place)?;
     let day = day_text(alloc, wanted.day).ok()?;
     missing_words(alloc, &wanted.digest, &day, wanted.is_accepted).ok()
 }
@@ -230,6 +235,7 @@ fn start_of(alloc: Global, bytes: &[u8]) -> Option<Contents> {
 /// The revision at a place of the journal in a file, as the tables judge it.
 fn wanted_in<F: WholeFiles>(
     alloc: Global,
+    hashing: NameHashing,
     files: &F,
     opened: OpenedBy<'_>,
     place: u32,
@@ -237,13 +243,14 @@ fn wanted_in<F: WholeFiles>(
     let schedule = tables_in(alloc, files, opened.table, opened.revisions).ok()?;
     let bytes = files.bytes_in(alloc, opened.journal).ok()?;
     let found = read_alone(alloc, &bytes, None).ok()?;
-    wanted_at(alloc, schedule, found.cards, &found.touches, place)
+    wanted_at(alloc, hashing, schedule, found.cards, &found.touches, place)
 }
 
 /// The revision at a place of these touches, as the tables judge it behind the touches before it. A
 /// revision is refused by its day alone: so it is judged as one to the first table, which is there.
 fn wanted_at(
     alloc: Global,
+    hashing: NameHashing,
     schedule: Schedule,
     cards: u32,
     touches: &[Touch],
@@ -277,7 +284,7 @@ fn wanted_at(
             moment,
         },
     };
-    let Ok(book) = enter_touches(alloc, cards, schedule, &touches[..place]) else {
+    let Ok(book) = enter_touches(alloc, hashing, cards, schedule, &touches[..place]) else {
         return None;
     };
     let is_accepted = accepts(book, &asked)?;

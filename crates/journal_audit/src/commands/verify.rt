@@ -20,6 +20,7 @@ use crate::gate_file::audit_gate_file;
 use command_line::{Seal as AskedSeal, Sealed as NamedSeal, Verify};
 use console::{TrialFault, WholeFiles};
 use fare_schedule::Schedule;
+use reply_book::NameHashing;
 use std::alloc::Global;
 use std::io::Write;
 use std::process::ExitCode;
@@ -34,6 +35,7 @@ use table_check::tables_in;
 /// written, and read again where it changed meanwhile and looks damaged.
 pub fn verify_journal<R: AllocGlobal + Eprint, F: WholeFiles, W: Write>(
     rt: &R,
+    hashing: NameHashing,
     files: &F,
     asked: &Verify<'_>,
     writer: &mut W,
@@ -45,7 +47,7 @@ pub fn verify_journal<R: AllocGlobal + Eprint, F: WholeFiles, W: Write>(
 {
     match asked.gate {
         Some(gate) => verify_gate_file(rt, files, gate, asked, writer),
-        None => verify_station(rt, files, asked, writer),
+        None => verify_station(rt, hashing, files, asked, writer),
     }
 }
 
@@ -53,6 +55,7 @@ pub fn verify_journal<R: AllocGlobal + Eprint, F: WholeFiles, W: Write>(
 /// are.
 fn verify_station<R: AllocGlobal + Eprint, F: WholeFiles, W: Write>(
     rt: &R,
+    hashing: NameHashing,
     files: &F,
     asked: &Verify<'_>,
     writer: &mut W,
@@ -70,7 +73,7 @@ fn verify_station<R: AllocGlobal + Eprint, F: WholeFiles, W: Write>(
     let schedule = tables_asked(alloc, files, asked)?;
     let read = settled_file(rt, files, asked.journal)?;
     let wanted = asked_of(asked);
-    let found = audit_journal(alloc, schedule, wanted, &read.bytes, writer)?;
+    let found = audit_journal(alloc, hashing, schedule, wanted, &read.bytes, writer)?;
     Ok(ExitCode::from(status_of(found)))
 }
 

@@ -19,7 +19,7 @@ use super::assert_same;
 use fare_schedule::Schedule;
 use fare_table::{EXAMPLE_TABLE, Fares};
 use oyster_account::{Act, CardState, CardView, Reply, Touch};
-use reply_book::Book;
+use reply_book::{Book, NameHashing};
 use std::alloc::Global;
 use std::fmt::Debug;
 use std::process::Abort;
@@ -198,7 +198,7 @@ fn read_with(
     seats: u16,
 ) -> Read {
     let schedule = schedule(alloc, given).expect(rt, "the tables weren't read");
-    Opening::read(alloc, disk, schedule, cards, seats)
+    Opening::read(alloc, NameHashing::fixed(), disk, schedule, cards, seats)
 }
 
 /// Reads the disk, by the example table.

@@ -180,7 +180,7 @@ fn answers_are_these_bytes(rt: HostRuntime) {
         gate,
         number,
     };
-    let cases: [(Answer, &[u8]); 14] = [
+    let cases: [(Answer, &[u8]); 16] = [
         (reply(1, 8, 0, 0), ANSWERS[0]),
         (reply(2, 7, 2000, 2000), ANSWERS[1]),
         (reply(3, 1, -900, 1100), ANSWERS[2]),
@@ -215,6 +215,14 @@ fn answers_are_these_bytes(rt: HostRuntime) {
         (
             fault(FaultCode::UnknownTable, 7, 6),
             b"\x00\x08\xff\x06\x00\x07\x00\x00\x00\x06",
+        ),
+        (
+            fault(FaultCode::NotAllowed, 7, 4),
+            b"\x00\x08\xff\x07\x00\x07\x00\x00\x00\x04",
+        ),
+        (
+            fault(FaultCode::NotAllowed, 0, 0),
+            b"\x00\x08\xff\x07\x00\x00\x00\x00\x00\x00",
         ),
     ];
     for (answer, bytes) in &cases {

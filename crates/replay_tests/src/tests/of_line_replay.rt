@@ -12,6 +12,7 @@ ghost use Rattle.fare_schedule.specs.Schedule.{revisions_of};
 use fare_schedule::Schedule;
 use fare_table::{EXAMPLE_TABLE, Fares};
 use line_replay::{ReplayFault, replay_text};
+use reply_book::NameHashing;
 use rows::{ASKED_AGAIN, FIRST_PATH, MISSING_TOUCHES, REFUSALS};
 use std::alloc::{AllocError, Global};
 use std::fmt::Debug;
@@ -52,7 +53,15 @@ fn run<R: Read, W: Write>(
     turns: u32,
 ) -> Result<Result<(), ReplayFault>, Fail> {
     let schedule = example(alloc).ok_or("a schedule")?;
-    Ok(replay_text(alloc, schedule, 10, reader, writer, turns))
+    Ok(replay_text(
+        alloc,
+        NameHashing::fixed(),
+        schedule,
+        10,
+        reader,
+        writer,
+        turns,
+    ))
 }
 
 /// What is written for bytes that come in one piece, and how the run ends.

@@ -20,7 +20,7 @@ use fare_schedule::Schedule;
 use fare_table::{EXAMPLE_TABLE, Fares};
 use money_time::Stamp;
 use oyster_account::{CardState, CardView, Reply, Touch};
-use reply_book::{Book, Entry, Found, ReplayFault};
+use reply_book::{Book, Entry, Found, NameHashing, ReplayFault};
 use rows::{Row, first_example, first_touches, leave, reply, view};
 use std::alloc::{AllocError, Global};
 use std::fmt::Debug;
@@ -156,10 +156,10 @@ fn empty_book(rt: &impl Abort, alloc: Global) -> Book
     ensures entries { length (entries_of result) ≡ 0 }
     ensures stands { Stands result }
 {
-    if let Ok(book) = Book::new(alloc, 10, example_schedule(rt, alloc)) {
+    if let Ok(book) = Book::new(alloc, NameHashing::fixed(), 10, example_schedule(rt, alloc)) {
         return book;
     }
-    let book = Book::new(alloc, 10, example_schedule(rt, alloc));
+    let book = Book::new(alloc, NameHashing::fixed(), 10, example_schedule(rt, alloc));
     book.expect(rt, "the second call meets no refusal")
 }
 
@@ -168,9 +168,21 @@ fn empty_book(rt: &impl Abort, alloc: Global) -> Book
 fn replayed(rt: &impl Abort, alloc: Global, touches: &[Touch]) -> Result<Book, ReplayFault>
     requires { length touches.now < 100 }
 {
-    match Book::replay(alloc, 10, example_schedule(rt, alloc), touches) {
+    match Book::replay(
+        alloc,
+        NameHashing::fixed(),
+        10,
+        example_schedule(rt, alloc),
+        touches,
+    ) {
         Err(ReplayFault::Memory) => {
-            Book::replay(alloc, 10, example_schedule(rt, alloc), touches)
+            Book::replay(
+                alloc,
+                NameHashing::fixed(),
+                10,
+                example_schedule(rt, alloc),
+                touches,
+            )
         }
         made => made,
     }

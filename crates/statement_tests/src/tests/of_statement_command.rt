@@ -21,6 +21,7 @@ use fare_schedule::Schedule;
 use fare_table::{EXAMPLE_TABLE, Fares};
 use journal_audit::CommandFault;
 use oyster_account::{Act, Touch};
+use reply_book::NameHashing;
 use statement_command::{Days, write_statement};
 use std::alloc::{AllocError, Global};
 use std::fmt::Debug;
@@ -184,7 +185,16 @@ fn printed(
     let bytes = bytes.to_vec(alloc)?;
     let Asked { card, days, format } = asked;
     let mut written = Vec::new(alloc);
-    let ended = write_statement(alloc, schedule, card, days, format, bytes, &mut written);
+    let ended = write_statement(
+        alloc,
+        NameHashing::fixed(),
+        schedule,
+        card,
+        days,
+        format,
+        bytes,
+        &mut written,
+    );
     let line = line_of(alloc, ended)?;
     let text = String::from_utf8(written).ok().ok_or("a text")?;
     Ok((text, line))

@@ -10,11 +10,11 @@ ghost use Rattle.gate_law.specs.Settled.{IsSettled};
 use super::*;
 use gate_law::{BookClerk, books_keep_stations, settle_at_once};
 use oyster_account::{CardState, CardView};
-use reply_book::Book;
+use reply_book::{Book, NameHashing};
 
 /// The clerk of a book of ten cards.
 fn new_clerk(rt: &impl Abort, alloc: Global) -> BookClerk {
-    match Book::new(alloc, 10, new_schedule(rt, alloc)) {
+    match Book::new(alloc, NameHashing::fixed(), 10, new_schedule(rt, alloc)) {
         Ok(book) => BookClerk::new(book),
         Err(_) => panic!(rt; "no memory for a book"),
     }

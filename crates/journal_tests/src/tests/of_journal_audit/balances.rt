@@ -10,6 +10,7 @@ use fare_schedule::Schedule;
 use fare_table::{EXAMPLE_TABLE, Fares};
 use journal_audit::{AuditFault, Totals, write_balances};
 use oyster_account::{Act, Touch};
+use reply_book::NameHashing;
 use std::alloc::Global;
 use std::fmt::Debug;
 use std::process::Abort;
@@ -190,7 +191,14 @@ fn told(
 ) -> Result<(String, Result<Totals, AuditFault>), Fail> {
     let schedule = example(alloc).ok_or("tables")?;
     let mut written = Vec::new(alloc);
-    let ended = write_balances(alloc, schedule, at, bytes, &mut written);
+    let ended = write_balances(
+        alloc,
+        NameHashing::fixed(),
+        schedule,
+        at,
+        bytes,
+        &mut written,
+    );
     let text = String::from_utf8(written).ok().ok_or("a text")?;
     Ok((text, ended))
 }

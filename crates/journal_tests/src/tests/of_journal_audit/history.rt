@@ -12,6 +12,7 @@ mod writing;
 use fare_schedule::Schedule;
 use fare_table::{EXAMPLE_TABLE, Fares};
 use journal_audit::{AuditFault, HistoryFormat, Wanted, write_history};
+use reply_book::NameHashing;
 use std::alloc::{AllocError, Global};
 use std::fmt::Debug;
 use std::process::Abort;
@@ -97,7 +98,15 @@ fn told(
     let schedule = example(alloc).ok_or("a schedule")?;
     let mut written = Vec::new(alloc);
     let bytes = bytes.to_vec(alloc)?;
-    let ended = write_history(alloc, schedule, wanted, format, bytes, &mut written);
+    let ended = write_history(
+        alloc,
+        NameHashing::fixed(),
+        schedule,
+        wanted,
+        format,
+        bytes,
+        &mut written,
+    );
     let text = String::from_utf8(written).ok().ok_or("a text")?;
     Ok((text, ended))
 }

@@ -4,7 +4,7 @@
 use super::history::example;
 use journal_audit::{digest_of_first, enter_touches};
 use oyster_account::{Act, CardState, CardView, Reply, Touch};
-use reply_book::Entry;
+use reply_book::{Entry, NameHashing};
 use std::fmt::Debug;
 use std::process::Abort;
 use std::test::Fail;
@@ -91,7 +91,7 @@ fn touches_are_entered_with_their_replies(rt: HostRuntime) -> Result<(), Fail> {
     let schedule = example(alloc).ok_or("tables")?;
     let [issue, top_up, enter, leave] = entries();
     let touches = [issue.touch, top_up.touch, enter.touch, leave.touch];
-    let book = enter_touches(alloc, 10, schedule, &touches)
+    let book = enter_touches(alloc, NameHashing::fixed(), 10, schedule, &touches)
         .ok()
         .ok_or("a book")?;
     assert_same(&rt, book.len(), 4);

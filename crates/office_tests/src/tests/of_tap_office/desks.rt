@@ -221,7 +221,7 @@ fn view_after(alloc: Global, touches: &[Touch]) -> Option<CardView> {
         return None;
     }
     let schedule = schedule(alloc, Given::Example)?;
-    let book = Book::replay(alloc, CARDS, schedule, touches).ok()?;
+    let book = Book::replay(alloc, NameHashing::fixed(), CARDS, schedule, touches).ok()?;
     Some(book.view(1))
 }
 

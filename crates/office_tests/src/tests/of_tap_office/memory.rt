@@ -34,13 +34,27 @@ fn disk_again(rt: &impl Abort, alloc: Global, capacity: u32, touches: &[Touch]) 
 /// What comes of a disk that is opened by these tables with so many cards for two seats. Where
 /// memory was refused, of which the disk says that it failed, it is opened again.
 fn read_again(rt: &impl Abort, alloc: Global, disk: MemoryDisk, given: Given, cards: u32) -> Read {
-    match Opening::read(alloc, disk, schedule_again(rt, alloc, given), cards, 2) {
+    match Opening::read(
+        alloc,
+        NameHashing::fixed(),
+        disk,
+        schedule_again(rt, alloc, given),
+        cards,
+        2,
+    ) {
         Err(
             OpenFault {
                 disk,
                 cause: JournalFault::Memory | JournalFault::Device,
             },
-        ) => Opening::read(alloc, disk, schedule_again(rt, alloc, given), cards, 2),
+        ) => Opening::read(
+            alloc,
+            NameHashing::fixed(),
+            disk,
+            schedule_again(rt, alloc, given),
+            cards,
+            2,
+        ),
         read => read,
     }
 }

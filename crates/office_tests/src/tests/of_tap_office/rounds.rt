@@ -29,7 +29,7 @@ fn opened_by(alloc: Global, text: &str, disk: MemoryDisk) -> Option<Opening<Memo
     let Ok(schedule) = Schedule::new(alloc, table) else {
         return None;
     };
-    match Opening::read(alloc, disk, schedule, CARDS, 2) {
+    match Opening::read(alloc, NameHashing::fixed(), disk, schedule, CARDS, 2) {
         Ok(opening) => Some(opening),
         Err(_) => None,
     }

@@ -204,7 +204,7 @@ fn commit_calls<R: Threads + Wait + Sync + Abort>(rt: &R, alloc: Global, gates: 
         disk: crashed(rt, &base, Choice::New),
     };
     let schedule = schedule(alloc, Given::Example).expect(rt, "the table wasn't read");
-    let opening = Opening::read(alloc, disk, schedule, CARDS, gates)
+    let opening = Opening::read(alloc, NameHashing::fixed(), disk, schedule, CARDS, gates)
         .ok()
         .expect(rt, "the disk wasn't opened");
     let ended = work_side_by_side::<Brand, R>(rt, alloc, opening);

@@ -3,6 +3,7 @@
 use super::assert_same_at;
 use super::revision::{both, revised_lines};
 use line_replay::{ReplayFault, replay_text};
+use reply_book::NameHashing;
 use std::alloc::Global;
 use std::io::Cursor;
 use std::process::Abort;
@@ -19,7 +20,15 @@ fn attempt(rt: &impl Abort, alloc: Global) -> Option<Result<(), ReplayFault>> {
     let answered = revised_lines(alloc, true).ok()?;
     let schedule = both(alloc)?;
     let mut room = Cursor::new([0; 1024]);
-    let ended = replay_text(alloc, schedule, 10, &mut asked.as_slice(), &mut room, 1_000);
+    let ended = replay_text(
+        alloc,
+        NameHashing::fixed(),
+        schedule,
+        10,
+        &mut asked.as_slice(),
+        &mut room,
+        1_000,
+    );
     let size = room.position() as usize;
     let taken = room.get_ref().get(..size).unwrap_or(&[]);
     assert_same_at(rt, answered.starts_with(taken), true, "beginning");

@@ -8,6 +8,7 @@ use super::{Row, assert_answered, assert_replayed, assert_same_at, example, line
 use fare_schedule::Schedule;
 use fare_table::{EXAMPLE_TABLE, Fares};
 use line_replay::{ReplayFault, replay_text};
+use reply_book::NameHashing;
 use std::alloc::{AllocError, Global};
 use std::test::Fail;
 
@@ -61,6 +62,7 @@ fn a_revision_changes_the_fares_of_later_journeys(rt: HostRuntime) -> Result<(),
     let mut written = Vec::new(alloc);
     let ended = replay_text(
         alloc,
+        NameHashing::fixed(),
         schedule,
         10,
         &mut asked.as_slice(),

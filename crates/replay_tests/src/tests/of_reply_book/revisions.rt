@@ -62,10 +62,10 @@ fn book_of_both(rt: &impl Abort, alloc: Global) -> Book
     ensures entries { length (entries_of result) ≡ 0 }
     ensures stands { Stands result }
 {
-    if let Ok(book) = Book::new(alloc, 10, both_tables(rt, alloc)) {
+    if let Ok(book) = Book::new(alloc, NameHashing::fixed(), 10, both_tables(rt, alloc)) {
         return book;
     }
-    let book = Book::new(alloc, 10, both_tables(rt, alloc));
+    let book = Book::new(alloc, NameHashing::fixed(), 10, both_tables(rt, alloc));
     book.expect(rt, "the second call meets no refusal")
 }
 
@@ -74,8 +74,20 @@ fn book_of_both(rt: &impl Abort, alloc: Global) -> Book
 fn replayed_of_both(rt: &impl Abort, alloc: Global, touches: &[Touch]) -> Book
     requires { length touches.now < 100 }
 {
-    let made = match Book::replay(alloc, 10, both_tables(rt, alloc), touches) {
-        Err(ReplayFault::Memory) => Book::replay(alloc, 10, both_tables(rt, alloc), touches),
+    let made = match Book::replay(
+        alloc,
+        NameHashing::fixed(),
+        10,
+        both_tables(rt, alloc),
+        touches,
+    ) {
+        Err(ReplayFault::Memory) => Book::replay(
+            alloc,
+            NameHashing::fixed(),
+            10,
+            both_tables(rt, alloc),
+            touches,
+        ),
         made => made,
     };
     made.expect(rt, "a book")

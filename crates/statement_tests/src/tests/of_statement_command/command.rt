@@ -89,11 +89,17 @@ fn assert_answered<R: Abort + AllocGlobal + Eprint>(
 ) -> Result<(), Fail> {
     let alloc = rt.alloc();
     let mut written = Vec::new(alloc);
-    let line = answered(alloc, tell_statement(rt, files, asked, &mut written))?;
+    let line = answered(
+        alloc,
+        tell_statement(rt, NameHashing::fixed(), files, asked, &mut written),
+    )?;
     assert_same(rt, line.as_str(), first);
     assert_same(rt, written.as_slice(), text.as_bytes());
     let mut written = Vec::new(alloc);
-    let line = answered(alloc, explained_statement(rt, files, asked, &mut written))?;
+    let line = answered(
+        alloc,
+        explained_statement(rt, NameHashing::fixed(), files, asked, &mut written),
+    )?;
     let both = format!(in alloc; "{first}{second}")?;
     assert_same(rt, line.as_str(), both.as_str());
     assert_same(rt, written.as_slice(), text.as_bytes());

@@ -40,7 +40,16 @@ fn assert_begun<R: Abort + AllocGlobal>(
         fails,
         holds,
     };
-    let ended = write_statement(alloc, schedule, CARD, ALL, format, bytes, &mut writer);
+    let ended = write_statement(
+        alloc,
+        NameHashing::fixed(),
+        schedule,
+        CARD,
+        ALL,
+        format,
+        bytes,
+        &mut writer,
+    );
     let line = line_of(alloc, ended)?;
     assert_same_at(rt, line.as_str(), want, (format, left));
     let taken = text.len().min(left);

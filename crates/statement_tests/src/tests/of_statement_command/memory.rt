@@ -25,7 +25,16 @@ fn attempt(rt: &impl Abort, alloc: Global, format: StatementFormat, want: &str) 
     let bytes = journal(alloc, &monday())?;
     let schedule = example(alloc)?;
     let mut room = Cursor::new([0; 2_048]);
-    let ended = write_statement(alloc, schedule, CARD, ALL, format, bytes, &mut room);
+    let ended = write_statement(
+        alloc,
+        NameHashing::fixed(),
+        schedule,
+        CARD,
+        ALL,
+        format,
+        bytes,
+        &mut room,
+    );
     let size = room.position() as usize;
     match ended {
         Ok(()) => {

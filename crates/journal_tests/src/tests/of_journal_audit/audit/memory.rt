@@ -21,7 +21,14 @@ fn attempt(
 {
     let bytes = of_example();
     let mut room = Cursor::new([0; 512]);
-    let ended = audit_journal(alloc, schedule, SEALED, &bytes, &mut room);
+    let ended = audit_journal(
+        alloc,
+        NameHashing::fixed(),
+        schedule,
+        SEALED,
+        &bytes,
+        &mut room,
+    );
     let size = room.position() as usize;
     let taken = room.get_ref().get(..size).unwrap_or(&[]);
     if ended.is_ok() {

@@ -45,7 +45,14 @@ fn over(bytes: [u8; 193], at: usize, piece: &[u8]) -> [u8; 193] {
 fn ended(alloc: Global, bytes: &[u8]) -> Option<Result<Finding, AuditFault>> {
     let schedule = example(alloc)?;
     let mut written = Vec::new(alloc);
-    Some(audit_journal(alloc, Some(schedule), SOUND, bytes, &mut written))
+    Some(audit_journal(
+        alloc,
+        NameHashing::fixed(),
+        Some(schedule),
+        SOUND,
+        bytes,
+        &mut written,
+    ))
 }
 
 #[test]
@@ -90,7 +97,14 @@ fn revisions_have_their_lines(rt: HostRuntime) -> Result<(), Fail> {
     assert_sound(&rt, SOUND, &revised(), alone.as_str())?;
     let schedule = example(alloc).ok_or("tables")?;
     let mut written = Vec::new(alloc);
-    let ended = audit_journal(alloc, Some(schedule), SOUND, &revised(), &mut written);
+    let ended = audit_journal(
+        alloc,
+        NameHashing::fixed(),
+        Some(schedule),
+        SOUND,
+        &revised(),
+        &mut written,
+    );
     assert_same(&rt, ended, Ok(Finding::Sound));
     let judged = format!(in alloc; "{line} Revised\nsound\n")?;
     let text = String::from_utf8(written).ok().ok_or("a text")?;

@@ -14,7 +14,7 @@ fn assert_begun<R: Abort + AllocGlobal>(rt: &R, whole: &str, left: usize) {
         fails: true,
         holds: false,
     };
-    let ended = audit_journal(alloc, None, SOUND, &FILE, &mut writer);
+    let ended = audit_journal(alloc, NameHashing::fixed(), None, SOUND, &FILE, &mut writer);
     let size = whole.len().min(left);
     assert_same_at(rt, writer.taken.as_slice(), &whole.as_bytes()[..size], left);
     if left < whole.len() {

@@ -19,7 +19,14 @@ fn assert_begun<R: Abort + AllocGlobal>(rt: &R, bytes: &[u8], left: usize) -> Re
         fails: true,
         holds: false,
     };
-    let ended = write_balances(rt.alloc(), schedule, None, bytes, &mut writer);
+    let ended = write_balances(
+        rt.alloc(),
+        NameHashing::fixed(),
+        schedule,
+        None,
+        bytes,
+        &mut writer,
+    );
     let size = whole.len().min(left);
     assert_same_at(rt, Some(writer.taken.as_slice()), whole.get(..size), left);
     if left < whole.len() {
@@ -45,7 +52,14 @@ fn attempt(rt: &impl Abort, alloc: Global) -> Option<Result<Totals, AuditFault>>
     let bytes = journal(alloc, b'2', 64, &WORKED)?;
     let schedule = example(alloc)?;
     let mut room = Cursor::new([0; 128]);
-    let ended = write_balances(alloc, schedule, None, &bytes, &mut room);
+    let ended = write_balances(
+        alloc,
+        NameHashing::fixed(),
+        schedule,
+        None,
+        &bytes,
+        &mut room,
+    );
     if ended.is_err() {
         assert_same(rt, room.position(), 0);
     }

@@ -13,7 +13,15 @@ fn attempt(rt: &impl Abort, alloc: Global) -> Option<Result<(), AuditFault>> {
     let schedule = example(alloc)?;
     let bytes = journal(alloc, false, &FRAMES)?;
     let mut room = Cursor::new([0; 512]);
-    let ended = write_history(alloc, schedule, ALL, HistoryFormat::Csv, bytes, &mut room);
+    let ended = write_history(
+        alloc,
+        NameHashing::fixed(),
+        schedule,
+        ALL,
+        HistoryFormat::Csv,
+        bytes,
+        &mut room,
+    );
     let size = room.position() as usize;
     let taken = room.get_ref().get(..size).unwrap_or(&[]);
     if ended.is_ok() {

@@ -16,7 +16,15 @@ fn assert_begun<R: Abort + AllocGlobal>(rt: &R, whole: &str, left: usize) -> Res
         fails: true,
         holds: false,
     };
-    let ended = write_history(alloc, schedule, ALL, HistoryFormat::Csv, bytes, &mut writer);
+    let ended = write_history(
+        alloc,
+        NameHashing::fixed(),
+        schedule,
+        ALL,
+        HistoryFormat::Csv,
+        bytes,
+        &mut writer,
+    );
     let size = whole.len().min(left);
     assert_same_at(rt, writer.taken.as_slice(), &whole.as_bytes()[..size], left);
     if left < whole.len() {
