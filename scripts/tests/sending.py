@@ -51,9 +51,9 @@ class SendTest(harness.ProgramTest):
         self.addCleanup(server.kill)
         return server
 
-    def words(self, *more: object, gate: int | str = 7, timeout: int = 1000) -> list[str]:
-        return [str(GATE_SEND), "--gate", str(gate), "--file", str(self.file), "--timeout", str(timeout), "--pause", "5",
-                *map(str, more)]
+    def words(self, *more: object, gate: int | str = 7, timeout: int = 1000, pause: int = 5) -> list[str]:
+        return [str(GATE_SEND), "--gate", str(gate), "--file", str(self.file), "--timeout", str(timeout),
+                "--pause", str(pause), *map(str, more)]
 
     def send(self, lines: Iterable[str], *more: object, gate: int | str = 7, timeout: int = 1000) -> Ended:
         """A run on these lines: its status, the lines that it printed, and what stands on standard error."""

@@ -1,4 +1,4 @@
-//! The lines to a station over TCP: its addresses in turn, and pauses that grow between the tries.
+//! The lines to a station over TCP: each of its addresses once, and then a pause. The pauses grow.
 
 ghost use Rattle.std.specs.Prelude.{⊤};
 
@@ -17,6 +17,8 @@ pub(crate) struct TcpStation<'a, R> {
     addresses: &'a [&'a str],
     /// Which of them the next line is made to.
     next: usize,
+    /// How many tries failed since the last pause, or since the last request was settled.
+    tried: usize,
     /// How long a connection, a read or a write may take.
     timeout: Duration,
     /// The first pause, in milliseconds.
@@ -38,14 +40,17 @@ impl<'a, R: Net<Listener = TcpListener, Stream = TcpStream> + Clock + Eprint> Tc
             rt,
             addresses,
             next: 0,
+            tried: 0,
             timeout,
             first,
             pause: first,
         }
     }
 
-    /// A touch is settled: the next pause is the first again.
+    /// A request is settled: the next one begins with no failed try, and its first pause is the
+    /// first again.
     pub(crate) fn rest(&mut self) {
+        self.tried = 0;
         self.pause = self.first;
     }
 
@@ -81,8 +86,13 @@ impl<R: Net<Listener = TcpListener, Stream = TcpStream> + Clock + Eprint> Statio
         let _ = eprintln!(self.rt; "again {address} {fault}");
         let next = self.next.saturating_add(1);
         self.next = if next < self.addresses.len() { next } else { 0 };
-        let pause = self.next_pause();
-        thread::sleep(self.rt, pause);
+        self.tried = self.tried.saturating_add(1);
+        // Another address may answer at once (PROTOCOL.md, "When to repeat, and how often").
+        if self.tried >= self.addresses.len() {
+            self.tried = 0;
+            let pause = self.next_pause();
+            thread::sleep(self.rt, pause);
+        }
     }
 }
 

@@ -47,7 +47,7 @@ from bovtrila import due, handover, handover_steps, old_server, serving
 from bovtrila.wire import Wrong
 
 # How many seconds without a touch an unattended change waits for. A gate without an answer reaches the server within
-# 70 seconds: with two addresses gate_send waits up to 30 seconds after each.
+# 40 seconds: it waits up to 30 seconds, and with two addresses up to 4 for each.
 ALONE = 130
 
 
