@@ -111,8 +111,11 @@ enum bovtrila_fault {
                                          started again, or another address, will tell: call bovtrila_resend later */
     BOVTRILA_FAULT_MEMORY = 4,        /* nothing was recorded: call bovtrila_resend */
     BOVTRILA_FAULT_FULL = 5,          /* nothing was recorded, the station's history is full: tell the staff */
-    BOVTRILA_FAULT_UNKNOWN_TABLE = 6  /* a revision names a fare table that the server wasn't started with: nothing was
+    BOVTRILA_FAULT_UNKNOWN_TABLE = 6, /* a revision names a fare table that the server wasn't started with: nothing was
                                          recorded. Once it is started with that table, call bovtrila_resend */
+    BOVTRILA_FAULT_NOT_ALLOWED = 7    /* the server's door didn't let the request through. This request recorded
+                                         nothing, but an earlier send of the same touch may be recorded: tell the staff,
+                                         and call bovtrila_resend later */
     /* end: faults */
 };
 

@@ -50,6 +50,7 @@ local VERDICTS = {
 local FAULTS = {
     -- generated: faults
     [1] = "BadFrame", [2] = "Conflict", [3] = "Halted", [4] = "Memory", [5] = "Full", [6] = "UnknownTable",
+    [7] = "NotAllowed",
     -- end: faults
 }
 local STATES = { [0] = "vacant", [1] = "outside", [2] = "inside" }

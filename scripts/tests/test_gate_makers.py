@@ -694,6 +694,7 @@ class Revised(MakersTest):
                                      ("reply 27 0 0\n", (), "refused: a day with travel, or not above the last"),
                                      ("fault 2\n", (), "conflict: the number stands for another touch"),
                                      ("fault 5\n", (), "full: the journal takes no new touch"),
+                                     ("fault 7\n", (), "not allowed: the server's door didn't let this request through"),
                                      ("fault 3\n", (), "halted: the station's disk has failed")):
             with self.subTest(words):
                 done, _ = self.revise(text, revised=revised)

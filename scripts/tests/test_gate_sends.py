@@ -124,6 +124,22 @@ class Faults(SendTest):
         self.file.unlink()
         self.assertFault(self.send(MORNING, "--new", address_of(server), gate=8), "fault answer 5 Full")
 
+    def test_what_a_door_does_not_let_through_is_told_and_a_touch_waits(self) -> None:
+        refused = codec.fault(codec.NOT_ALLOWED, 7, 1)
+        station = Scripted([refused, refused, reply(1, 8, 0, 0)])
+        for more in (["--new"], ["--resend"]):
+            behind = self.assertFault(self.send(MORNING[:1], *more, station.address), "fault answer 7 NotAllowed")
+            self.assertEqual(behind, [f"  {self.file}: gate 7 number 1 waits; settle it by --resend"])
+        self.assertEqual(self.send([], "--resend", station.address), (0, ANSWERED[:1], ""))
+        self.assertEqual(station.requests, FRAMES[:1] * 3)
+
+    def test_an_enquiry_that_a_door_does_not_let_through_is_told(self) -> None:
+        station = Scripted([codec.fault(codec.NOT_ALLOWED)])
+        behind = self.assertFault(self.send(["enquire 1", "issue 1"], "--new", station.address),
+                                  "fault enquiry answer 7 NotAllowed")
+        self.assertEqual((behind, station.requests), (["  card 1"], [codec.enquiry(1)]))
+        self.assertEqual(self.kept(), [])
+
     def test_a_new_journal_charges_the_last_touch_again_unless_it_is_of_card_0(self) -> None:
         # docs/reference/PROTOCOL.md, "A new journal".
         refused = ["7,5,0,out,0,,UnknownCard,0,0"]
@@ -171,6 +187,29 @@ class Faults(SendTest):
         dead = free_address()
         status, out, err = self.send(MORNING, "--new", dead, dead, station)
         self.assertEqual((status, out, err), (0, ANSWERED, f"again {dead} connect\n" * 2))
+
+    def test_the_next_address_is_tried_without_a_pause(self) -> None:
+        """docs/reference/PROTOCOL.md, "When to repeat, and how often". A pause would be of 15 to 30 seconds."""
+        words = self.words("--new", free_address(), free_address(), address_of(self.station()), pause=30_000)
+        begun = time.monotonic()
+        done = subprocess.run(words, input=MORNING[0], capture_output=True, text=True, timeout=TIME)
+        self.assertLess(time.monotonic() - begun, 15)
+        self.assertEqual((done.returncode, done.stdout, done.stderr.count("\n")), (0, ANSWERED[0] + "\n", 2))
+
+    def test_a_pause_follows_when_each_address_has_failed(self) -> None:
+        """The first pause is of 3 to 6 seconds."""
+        first, second = free_address(), free_address()
+        words = self.words("--new", "--tries", 4, first, second, pause=6000)
+        with subprocess.Popen(words, stdin=subprocess.PIPE, stderr=subprocess.PIPE, text=True) as gate:
+            assert gate.stdin is not None and gate.stderr is not None
+            gate.stdin.write(MORNING[0])
+            gate.stdin.close()
+            said = [(line, time.monotonic()) for line in gate.stderr]
+        self.assertEqual([line for line, _ in said[:4]], [f"again {address} connect\n" for address in (first, second) * 2])
+        gaps = [later - earlier for (_, earlier), (_, later) in zip(said[:3], said[1:4])]
+        self.assertLess(gaps[0], 2.5)
+        self.assertGreater(gaps[1], 2.9)
+        self.assertLess(gaps[2], 2.5)
 
     def test_a_station_that_is_silent_is_given_up(self) -> None:
         with socket.create_server(("127.0.0.1", 0)) as silent:

@@ -11,6 +11,7 @@ TROUBLES = {
     "a halted server": "fault 3\nfault 3\nanswer\nfault 3\n",
     "a server without memory": "fault 4\nanswer\nfault 4\n",
     "a full server": "answer\nfault 5\n",
+    "a door that lets a touch through late": "answer\nfault 7\nfault 7\n",
     "a fault of a later version": "fault 77\n",
     "the answer to another touch": "another answer\nanswer\nanother reply 1 -900 1100\n",
     "another touch's fault": "another fault 3\nanswer\n",

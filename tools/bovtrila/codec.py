@@ -6,7 +6,7 @@ import struct
 
 ENTER, LEAVE, TOP_UP, ISSUE, ENQUIRE, REVISE = 1, 2, 3, 4, 5, 6
 REPLY, HOLDING, FAULT = 0x81, 0x85, 0xFF
-BAD_FRAME, CONFLICT, HALTED, MEMORY, FULL, UNKNOWN_TABLE = 1, 2, 3, 4, 5, 6
+BAD_FRAME, CONFLICT, HALTED, MEMORY, FULL, UNKNOWN_TABLE, NOT_ALLOWED = 1, 2, 3, 4, 5, 6, 7
 REVISED, BAD_DAY = 9, 27
 # The words of a history for the kinds of touches and for verdicts.
 ACTS = {ENTER: "in", LEAVE: "out", TOP_UP: "top-up", ISSUE: "issue", REVISE: "revision"}

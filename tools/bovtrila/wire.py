@@ -80,6 +80,7 @@ FAULTS = {
     4: "no memory, send it again",
     5: "full: the journal takes no new touch",
     6: "unknown table: the server wasn't started with it, and recorded nothing",
+    7: "not allowed: the server's door didn't let this request through, which changed nothing",
     # end: faults
 }
 

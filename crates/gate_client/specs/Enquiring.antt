@@ -1,20 +1,25 @@
 -- An enquiry over a line: which lines ask for one, what passes, and the line of its answer
 -- (COMMANDS.md, "gate_send"; PROTOCOL.md, "Frames"; this project's choice).
-use Rattle.std.specs.Prelude.{◌≡◌, ℕ, List, ◌++◌, codes, Option, Result, Ok, Err}
+use Rattle.std.specs.Prelude.{◌≡◌, ◌==◌, if◌then◌else◌, ℕ, List, ◌++◌, codes, Option, Some, None}
+use Rattle.std.specs.Prelude.{Result, Ok, Err}
 use Rattle.std.specs.Fmt.{decimal, signed_decimal}
 use Rattle.std.specs.Io.KnownBytes.{Appends, Consumes}
 use Rattle.oyster_account.specs.declared.reply.CardState.{CardState}
 use Rattle.oyster_account.specs.declared.reply.CardState.TheVariants.{Vacant, Outside, Inside}
 use Rattle.gate_session.specs.declared.request.Request.TheVariants as requests
 use Rattle.gate_session.specs.declared.answer.Answer.TheVariants as answers
+use Rattle.gate_session.specs.declared.answer.FaultCode.TheVariants as faults
 use Rattle.gate_session.specs.Frames.{request_frame}
-use Rattle.gate_session.specs.Answers.{answer_frame}
+use Rattle.gate_session.specs.Answers.{answer_frame, fault_code}
 use Rattle.text_io.specs.Writing.{IsCutShort}
 use Rattle.gate_client.specs.Asking.{IsNumber, spaced}
+use Rattle.gate_client.specs.declared.fault.HearFault.TheVariants.{Refused}
 use Rattle.gate_client.specs.declared.fault.LineFault.{LineFault}
 use Rattle.gate_client.specs.declared.attempt.TryFault.{TryFault}
 use Rattle.gate_client.specs.declared.attempt.TryFault.TheVariants.{Unreached, Cut, Unheard}
 use Rattle.gate_client.specs.declared.enquiry.Holding.{Holding}
+use Rattle.gate_client.specs.declared.enquiry.EnquireFault.{EnquireFault}
+use Rattle.gate_client.specs.declared.enquiry.EnquireFault.TheVariants.{NotAllowed, Tries}
 
 -- a line asks what this card holds: `enquire 3`
 pub record Enquires (line : List ℕ) (card : ℕ) : Type 0 where
@@ -62,3 +67,14 @@ abbrev pub holding_text : ℕ → ℕ → Holding → List ℕ
 holding_text gate card holding = decimal gate ++ (codes ",," ++ (decimal card
     ++ (codes ",enquiry,,," ++ (state_text holding.view.state
     ++ (codes ",," ++ signed_decimal holding.view.balance)))))
+
+-- what a fault prints behind `fault enquiry `
+abbrev pub printed_enquire_fault : EnquireFault → List ℕ
+printed_enquire_fault NotAllowed = codes "answer 7 NotAllowed"
+printed_enquire_fault (Tries tries) = codes "tries " ++ decimal tries
+
+-- a try's fault ends the asking where it is the answer that the enquiry isn't allowed
+abbrev pub last_enquiry_fault : TryFault → Option EnquireFault
+last_enquiry_fault (Unheard (Refused code)) =
+    if code == fault_code faults.NotAllowed then Some NotAllowed else None
+last_enquiry_fault _ = None

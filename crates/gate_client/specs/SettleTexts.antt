@@ -9,13 +9,14 @@ use Rattle.gate_client.specs.declared.attempt.TryFault.{TryFault}
 use Rattle.gate_client.specs.declared.attempt.TryFault.TheVariants.{Unheard}
 use Rattle.gate_client.specs.declared.settling.SettleFault.{SettleFault}
 use Rattle.gate_client.specs.declared.settling.SettleFault.TheVariants.{Conflict, Full}
-use Rattle.gate_client.specs.declared.settling.SettleFault.TheVariants.{UnknownTable, Tries}
+use Rattle.gate_client.specs.declared.settling.SettleFault.TheVariants.{UnknownTable, NotAllowed, Tries}
 
 -- what a fault prints behind `fault `
 abbrev pub printed_settle_fault : SettleFault → List ℕ
 printed_settle_fault Conflict = codes "answer 2 Conflict"
 printed_settle_fault Full = codes "answer 5 Full"
 printed_settle_fault UnknownTable = codes "answer 6 UnknownTable"
+printed_settle_fault NotAllowed = codes "answer 7 NotAllowed"
 printed_settle_fault (Tries tries) = codes "tries " ++ decimal tries
 
 -- an answer of the station that repeats don't change
@@ -24,6 +25,7 @@ last_answer code =
     if code == fault_code faults.Conflict then Some Conflict
     else if code == fault_code faults.Full then Some Full
     else if code == fault_code faults.UnknownTable then Some UnknownTable
+    else if code == fault_code faults.NotAllowed then Some NotAllowed
     else None
 
 -- a try's fault ends the settling where it is such an answer

@@ -6,18 +6,23 @@ ghost use Rattle.gate_session.specs.Answers.{answer_frame};
 ghost use Rattle.text_io.specs.Writing.{Wrote};
 ghost use Rattle.gate_client.specs.declared.attempt.TryFault.TheVariants.{Cut, Unheard};
 ghost use Rattle.gate_client.specs.declared.fault.HearFault.TheVariants.{Refused};
+ghost use Rattle.gate_client.specs.declared.enquiry.EnquireFault.TheVariants.{Tries};
 ghost use Rattle.gate_client.specs.declared.settling.Line.{Line};
 ghost use Rattle.gate_client.specs.Enquiring.{Enquires, HasEnquired, HasAnswered};
 ghost use Rattle.gate_client.specs.Enquiring.{holding_text, state_text};
+ghost use Rattle.gate_client.specs.Enquiring.{last_enquiry_fault, printed_enquire_fault};
 
+use crate::HearFault;
 use crate::asking::number_in;
 use crate::attempt::TryFault;
 use crate::enquiry_line::{read_holding, write_enquiry};
 use crate::settling::{Line, Station, line_for};
+use gate_session::FaultCode;
 use oyster_account::{CardState, CardView};
 use std::fmt;
 use std::fmt::Display;
 use std::io::{Read, Write};
+use thiserror::Error;
 
 /// What a card holds, as a station answered it.
 #[derive(Clone, Copy, Debug, PartialEq, Eq)]
@@ -43,6 +48,27 @@ pub struct HoldingTold {
 /// Where a card is, in a word.
 #[derive(Clone, Copy)]
 struct StateName(CardState);
+
+/// Why an enquiry isn't answered. Nothing waits.
+#[derive(Clone, Copy, Debug, PartialEq, Eq, Error)]
+pub enum EnquireFault {
+    /// The station doesn't allow it over this line, which repeats don't change.
+    NotAllowed,
+    /// So many tries as were allowed brought no answer.
+    Tries(u32),
+}
+
+/// Prints what stands behind `fault enquiry ` in the line of the fault, as a touch's does.
+impl fmt::Display for EnquireFault {
+    ghost output = { λ fault. Some (printed_enquire_fault fault) };
+
+    fn fmt<W: fmt::Write>(&self, f: &mut fmt::Formatter<W>) -> fmt::Result {
+        match *self {
+            EnquireFault::NotAllowed => f.write_str("answer 7 NotAllowed"),
+            EnquireFault::Tries(tries) => write!(f, "tries {tries}"),
+        }
+    }
+}
 
 impl Display for HoldingTold {
     ghost output = { λ told. Some (holding_text told.gate told.card told.holding) };
@@ -116,20 +142,20 @@ pub fn enquire<R: Read, W: Write>(
 /// Asks what a card holds, over a new line after each fault, until it is answered. It begins with
 /// `line`, where there is one.
 ///
-/// After Ok the line can carry the next request. A line on which no answer came is dropped. An
-/// `Err` says that so many tries brought none.
+/// After Ok the line can carry the next request. A line on which no answer came is dropped. The
+/// station's fault 7 ends it, since repeats don't change it, and so do so many tries.
 pub fn ask_after<R: Read + Drop, W: Write + Drop, S: Station<R, W>>(
     card: u32,
     station: &mut S,
     line: Option<Line<R, W>>,
     tries: u32,
-) -> Result<(Holding, Line<R, W>), u32>
+) -> Result<(Holding, Line<R, W>), EnquireFault>
     // Over the line that is handed back the enquiry was written, and its answer was read.
     ensures answered { IfOk result (λ done.
         (begun : Line R W) × ((line ≡ Some begun) ⊎ S.made begun)
         × HasAnswered card done.0 (R.remaining begun.reader) (R.remaining done.1.reader)
         (W.contents begun.writer) (W.contents done.1.writer)) }
-    ensures tries { (n : ℕ) → result ≡ Err n → n ≡ tries }
+    ensures tries { (n : ℕ) → result ≡ Err (Tries n) → n ≡ tries }
 {
     let mut ready = line;
     for _ in 0..tries {
@@ -137,10 +163,15 @@ pub fn ask_after<R: Read + Drop, W: Write + Drop, S: Station<R, W>>(
         ready = None;
         match enquire_over(card, line) {
             Ok(done) => return Ok(done),
-            Err(fault) => station.failed(fault),
+            Err(fault) => {
+                if let Some(last) = last_enquiry_fault(fault) {
+                    return Err(last);
+                }
+                station.failed(fault);
+            }
         }
     }
-    Err(tries)
+    Err(EnquireFault::Tries(tries))
 }
 
 /// One try of an enquiry. At a fault the line is dropped.
@@ -157,4 +188,18 @@ fn enquire_over<R: Read + Drop, W: Write + Drop>(
     };
     let holding = enquire(card, &mut line.reader, &mut line.writer)?;
     Ok((holding, line))
+}
+
+/// The fault that ends the asking where a try met this one. `None` where it goes on.
+fn last_enquiry_fault(fault: TryFault) -> Option<EnquireFault>
+    ensures { result ≡ last_enquiry_fault fault }
+{
+    let TryFault::Unheard(HearFault::Refused(code)) = fault else {
+        return None;
+    };
+    if code == FaultCode::NotAllowed.code() {
+        Some(EnquireFault::NotAllowed)
+    } else {
+        None
+    }
 }

@@ -19,7 +19,7 @@ mod told;
 pub use asking::{Asked, asked_by};
 pub use attempt::{TryFault, exchange};
 pub use client::Client;
-pub use enquiry::{Holding, HoldingTold, ask_after, enquire, enquired_by};
+pub use enquiry::{EnquireFault, Holding, HoldingTold, ask_after, enquire, enquired_by};
 pub use fault::{AskFault, ClientFault, FileFault, HearFault, LineFault};
 pub use file::{CARDS, TAG, first_foreign, tag_of};
 pub use laws::{one_file, one_number};

@@ -38,7 +38,7 @@ pub trait Station<R, W> {
     fn failed(&mut self, fault: TryFault);
 }
 
-/// Why a touch isn't settled. It waits on: the first three are answers of the station that repeats
+/// Why a touch isn't settled. It waits on: all but the last are answers of the station that repeats
 /// don't change.
 #[derive(Clone, Copy, Debug, PartialEq, Eq, Error)]
 pub enum SettleFault {
@@ -48,6 +48,9 @@ pub enum SettleFault {
     Full,
     /// The station doesn't know the table that it names.
     UnknownTable,
+    /// The station doesn't allow it over this line. It may still stand in the history, by an earlier
+    /// try.
+    NotAllowed,
     /// So many tries as were allowed brought no reply.
     Tries(u32),
 }
@@ -62,6 +65,7 @@ impl fmt::Display for SettleFault {
             SettleFault::Conflict => f.write_str("answer 2 Conflict"),
             SettleFault::Full => f.write_str("answer 5 Full"),
             SettleFault::UnknownTable => f.write_str("answer 6 UnknownTable"),
+            SettleFault::NotAllowed => f.write_str("answer 7 NotAllowed"),
             SettleFault::Tries(tries) => write!(f, "tries {tries}"),
         }
     }
@@ -71,8 +75,8 @@ impl fmt::Display for SettleFault {
 /// time, until the reply is there. It begins with `line`, where there is one.
 ///
 /// After Ok none waits, and the line can carry the next touch. A line on which no whole answer to
-/// the touch came, or a fault of the station, is dropped. The station's faults 2, 5 and 6 end it,
-/// since repeats don't change them, and so do so many tries.
+/// the touch came, or a fault of the station, is dropped. The station's faults 2, 5, 6 and 7 end
+/// it, since repeats don't change them, and so do so many tries.
 pub fn settle<D: Disk, R: Read + Drop, W: Write + Drop, S: Station<R, W>>(
     client: &mut Client<D>,
     station: &mut S,
@@ -160,6 +164,8 @@ fn last_answer(code: u8) -> Option<SettleFault>
         Some(SettleFault::Full)
     } else if code == FaultCode::UnknownTable.code() {
         Some(SettleFault::UnknownTable)
+    } else if code == FaultCode::NotAllowed.code() {
+        Some(SettleFault::NotAllowed)
     } else {
         None
     }

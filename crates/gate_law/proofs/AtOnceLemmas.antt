@@ -12,7 +12,7 @@ use Rattle.gate_session.specs.declared.answer.Answer.{Answer}
 use Rattle.gate_session.specs.declared.answer.Answer.TheVariants as answers
 use Rattle.gate_session.specs.declared.answer.FaultCode.{FaultCode}
 use Rattle.gate_session.specs.declared.answer.FaultCode.TheVariants.{BadFrame, Conflict, Halted}
-use Rattle.gate_session.specs.declared.answer.FaultCode.TheVariants.{Memory, Full, UnknownTable}
+use Rattle.gate_session.specs.declared.answer.FaultCode.TheVariants.{Memory, Full, UnknownTable, NotAllowed}
 use Rattle.gate_client.specs.declared.fault.HearFault.{HearFault}
 use Rattle.gate_law.specs.Steps.{is_reply}
 use Rattle.gate_law.specs.BookClerk.{IsGivenBy, IsRefusedFor, HasCause}
@@ -44,6 +44,7 @@ not-refused book touch ready UnknownTable is =
 not-refused book touch ready Full is = ready.not_full is.0 is.1
 not-refused book touch ready Memory is = is.1 (ready.room is.0)
 not-refused book touch ready Halted is = is
+not-refused book touch ready NotAllowed is = is
 not-refused book touch ready BadFrame is = is
 
 -- an answer that is no reply is a fault, for its cause

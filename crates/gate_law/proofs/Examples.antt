@@ -145,7 +145,10 @@ no_false_conflict tables cause = absurd cc
 
 -- nor as an answer of no touch
 no_conflict_of_no_touch : IsOfNoTouch (answers.Fault 2 7 1) → ⊥
-no_conflict_of_no_touch none = elim none [ inl bad ↦ absurd cc | inr halted ↦ absurd cc ]
+no_conflict_of_no_touch none = elim none [
+  | inl bad ↦ absurd cc
+  | inr others ↦ elim others [ inl halted ↦ absurd cc | inr barred ↦ absurd cc ]
+]
 
 module _ (tables : Tables) where
   -- the gate 7 that has its touch waiting is opened, and lets none wait

@@ -15,7 +15,7 @@ use Rattle.gate_session.specs.declared.answer.Answer.{Answer}
 use Rattle.gate_session.specs.declared.answer.Answer.TheVariants as answers
 use Rattle.gate_session.specs.declared.answer.FaultCode.{FaultCode}
 use Rattle.gate_session.specs.declared.answer.FaultCode.TheVariants.{BadFrame, Conflict, Halted}
-use Rattle.gate_session.specs.declared.answer.FaultCode.TheVariants.{Memory, Full, UnknownTable}
+use Rattle.gate_session.specs.declared.answer.FaultCode.TheVariants.{Memory, Full, UnknownTable, NotAllowed}
 use Rattle.gate_session.specs.Answers.{fault_code}
 use Rattle.gate_law.specs.Joint.{Joint, is_any}
 use Rattle.gate_law.specs.Steps as one_steps
@@ -105,6 +105,7 @@ conflicts station touch Halted is cause = absurd cc
 conflicts station touch Memory is cause = absurd cc
 conflicts station touch Full is cause = absurd cc
 conflicts station touch UnknownTable is cause = absurd cc
+conflicts station touch NotAllowed is cause = absurd cc
 
 module _ (alone : ℕ → Bool) (cards : ℕ) (old : Whole) (h : Reached alone cards old) where
   -- a touch of a gate that has its number to itself conflicts with none
@@ -136,7 +137,10 @@ module _ (alone : ℕ → Bool) (cards : ℕ) (old : Whole) (h : Reached alone c
   of-none (answers.Holding view front) gate number none is = absurd cc
   of-none (answers.Fault code g n) gate number none is =
       let same : code ≡ fault_code Conflict = cc in
-      elim none [ inl bad ↦ absurd cc | inr halted ↦ absurd cc ]
+      elim none [
+        | inl bad ↦ absurd cc
+        | inr others ↦ elim others [ inl halted ↦ absurd cc | inr barred ↦ absurd cc ]
+      ]
 
   conflict-tells : (new : Whole) (a : Tells old new) (gate number : ℕ) → alone gate ≡ true
       → Contains (old.answers ++ a.answer ∷ []) (answers.Fault (fault_code Conflict) gate number) → ⊥

@@ -17,6 +17,7 @@ use Rattle.gate_session.specs.declared.answer.Answer.TheVariants as answers
 use Rattle.gate_session.specs.declared.answer.FaultCode.{FaultCode}
 use Rattle.gate_session.specs.declared.answer.FaultCode.TheVariants.{BadFrame, Conflict, Halted}
 use Rattle.gate_session.specs.declared.answer.FaultCode.TheVariants.{Memory, Full, UnknownTable}
+use Rattle.gate_session.specs.declared.answer.FaultCode.TheVariants.{NotAllowed}
 use Rattle.gate_session.specs.Answers.{AnswerFits, fault_code}
 use Rattle.gate_law.specs.Station.{IsEntered, IsRepeated, DoesAnswer, station_of}
 
@@ -30,6 +31,7 @@ IsRefusedFor book touch Full =
 IsRefusedFor book touch Memory =
     (found (entries_of book) touch ≡ New) × (HasRoom book touch → ⊥)
 IsRefusedFor book touch Halted = ⊥
+IsRefusedFor book touch NotAllowed = ⊥
 IsRefusedFor book touch BadFrame = ⊥
 
 -- a touch is answered by a reply, or by a fault for its cause

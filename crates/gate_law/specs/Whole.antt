@@ -12,6 +12,7 @@ use Rattle.gate_session.specs.declared.answer.Answer.{Answer}
 use Rattle.gate_session.specs.declared.answer.FaultCode.{FaultCode}
 use Rattle.gate_session.specs.declared.answer.FaultCode.TheVariants.{BadFrame, Conflict, Halted}
 use Rattle.gate_session.specs.declared.answer.FaultCode.TheVariants.{Memory, Full, UnknownTable}
+use Rattle.gate_session.specs.declared.answer.FaultCode.TheVariants.{NotAllowed}
 use Rattle.gate_law.specs.Joint.{Joint}
 
 -- a touch for which the gate's caller was told a fault, by its code
@@ -73,7 +74,8 @@ pub record IsWaitingAt (gate : Gate) (touch : Touch) : Type 0 where
   pub last : gate.file ≡ earlier ++ touch ∷ []
   pub waits : gate.waits ≡ true
 
--- this is why a station gives a touch no reply. That it is halted may be told of any touch
+-- this is why a station gives a touch no reply. That it is halted, or that the touch isn't allowed,
+-- may be told of any touch, also of one that stands in the history: it says nothing of that
 abbrev pub IsCause : Station → Touch → FaultCode → Type 0
 IsCause station touch Conflict = found station.history touch ≡ Other
 IsCause station touch UnknownTable =
@@ -82,4 +84,5 @@ IsCause station touch Full =
     (found station.history touch ≡ New) × (length station.history ≡ station.capacity)
 IsCause station touch Memory = found station.history touch ≡ New
 IsCause station touch Halted = Unit {0}
+IsCause station touch NotAllowed = Unit {0}
 IsCause station touch BadFrame = ⊥

@@ -12,6 +12,7 @@ use Rattle.gate_session.specs.declared.answer.Answer.{Answer}
 use Rattle.gate_session.specs.declared.answer.Answer.TheVariants as answers
 use Rattle.gate_session.specs.declared.answer.FaultCode.{FaultCode}
 use Rattle.gate_session.specs.declared.answer.FaultCode.TheVariants.{BadFrame, Halted}
+use Rattle.gate_session.specs.declared.answer.FaultCode.TheVariants.{NotAllowed}
 use Rattle.gate_session.specs.Answers.{fault_code}
 use Rattle.gate_law.specs.Joint.{is_any}
 use Rattle.gate_law.specs.Premises.{Line, OneJournal, SameTables, TheLock}
@@ -97,13 +98,13 @@ pub record Refuses (old new : Whole) : Type 0 where
         ++ answers.Fault (fault_code fault) touch.gate touch.number ∷ [];
   }
 
--- the answer is of no touch: what a card holds, that there is none to tell, or that the bytes were
--- no frame
+-- the answer is of no touch: what a card holds, that there is none to tell, that the enquiry isn't
+-- allowed, or that the bytes were no frame
 abbrev pub IsOfNoTouch : Answer → Type 0
 IsOfNoTouch (answers.Reply gate number reply) = ⊥
 IsOfNoTouch (answers.Holding view front) = Unit {0}
 IsOfNoTouch (answers.Fault code gate number) =
-    (code ≡ fault_code BadFrame) ⊎ (code ≡ fault_code Halted)
+    (code ≡ fault_code BadFrame) ⊎ (code ≡ fault_code Halted) ⊎ (code ≡ fault_code NotAllowed)
 
 -- the station writes an answer that is of no touch
 pub record Tells (old new : Whole) : Type 0 where

@@ -4,6 +4,7 @@ use Rattle.std.specs.Fmt.{digits}
 use Rattle.gate_client.specs.declared.fault.FileFault.TheVariants as files
 use Rattle.gate_client.specs.declared.fault.AskFault.TheVariants as asks
 use Rattle.gate_client.specs.declared.settling.SettleFault.TheVariants as settles
+use Rattle.gate_client.specs.declared.enquiry.EnquireFault.TheVariants as enquires
 use Rattle.gate_send.specs.declared.fault.SendFault.TheVariants as sends
 use Rattle.gate_send.specs.Told.{told_fault}
 
@@ -11,8 +12,10 @@ use Rattle.gate_send.specs.Told.{told_fault}
 each_part_is_told : (told_fault (sends.GateFile files.AnotherFile None) ≡ Some (codes "fault gate-file 6 AnotherFile"))
     × (told_fault (sends.Ask asks.Full None) ≡ Some (codes "fault ask 3 Full"))
     × (told_fault (sends.Settle settles.Conflict None) ≡ Some (codes "fault answer 2 Conflict"))
+    × (told_fault (sends.Settle settles.NotAllowed None) ≡ Some (codes "fault answer 7 NotAllowed"))
     × (told_fault (sends.Settle (settles.Tries 10) None) ≡ Some (codes "fault tries 10"))
     × (told_fault (sends.BadLine 3 None) ≡ Some (codes "fault line 3"))
-    × (told_fault (sends.Enquire 10 None) ≡ Some (codes "fault enquiry tries 10"))
+    × (told_fault (sends.Enquire enquires.NotAllowed None) ≡ Some (codes "fault enquiry answer 7 NotAllowed"))
+    × (told_fault (sends.Enquire (enquires.Tries 10) None) ≡ Some (codes "fault enquiry tries 10"))
 unfolding digits
-each_part_is_told = (refl, refl, refl, refl, refl, refl)
+each_part_is_told = (refl, refl, refl, refl, refl, refl, refl, refl)

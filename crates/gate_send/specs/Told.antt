@@ -2,6 +2,7 @@
 -- gate_send"; this project's choice).
 use Rattle.std.specs.Prelude.{ℕ, List, ◌++◌, Option, Some, None, codes}
 use Rattle.std.specs.Fmt.{decimal}
+use Rattle.gate_client.specs.Enquiring.{printed_enquire_fault}
 use Rattle.gate_client.specs.Texts.{printed_file_fault, printed_ask_fault}
 use Rattle.gate_client.specs.SettleTexts.{printed_settle_fault}
 use Rattle.gate_send.specs.declared.fault.SendFault.{SendFault}
@@ -22,4 +23,4 @@ told_fault (BadLine number _) = Some (codes "fault line " ++ decimal number)
 told_fault Clock = Some (codes "fault clock")
 told_fault (Ask fault _) = Some (codes "fault ask " ++ printed_ask_fault fault)
 told_fault (Settle fault _) = Some (codes "fault " ++ printed_settle_fault fault)
-told_fault (Enquire tries _) = Some (codes "fault enquiry tries " ++ decimal tries)
+told_fault (Enquire fault _) = Some (codes "fault enquiry " ++ printed_enquire_fault fault)

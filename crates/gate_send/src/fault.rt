@@ -7,7 +7,7 @@ ghost use Rattle.gate_send.specs.Told.{told_fault};
 
 use clap::Error as LineError;
 use clap::error::ErrorKind;
-use gate_client::{AskFault, FileFault, SettleFault};
+use gate_client::{AskFault, EnquireFault, FileFault, SettleFault};
 use std::alloc::AllocError;
 use std::process::ExitCode;
 use std::{fmt, io};
@@ -38,8 +38,8 @@ pub(crate) enum SendFault {
     Ask(AskFault, Detail),
     /// A touch that was kept isn't settled, and waits on.
     Settle(SettleFault, Detail),
-    /// So many tries of an enquiry brought no answer.
-    Enquire(u32, Detail),
+    /// An enquiry isn't answered.
+    Enquire(EnquireFault, Detail),
 }
 
 /// Prints the line that standard error gets of the fault, without its line feed.
@@ -58,7 +58,7 @@ impl fmt::Display for SendFault {
             SendFault::Clock => f.write_str("fault clock"),
             SendFault::Ask(fault, _) => write!(f, "fault ask {fault}"),
             SendFault::Settle(fault, _) => write!(f, "fault {fault}"),
-            SendFault::Enquire(tries, _) => write!(f, "fault enquiry tries {tries}"),
+            SendFault::Enquire(fault, _) => write!(f, "fault enquiry {fault}"),
         }
     }
 }

@@ -203,9 +203,9 @@ impl<
                 };
                 self.rt.println(&told).map_err(|_| SendFault::Write)
             }
-            Err(tries) => {
+            Err(fault) => {
                 let detail = format!(in self.rt.alloc(); "  card {card}").ok();
-                Err(SendFault::Enquire(tries, detail))
+                Err(SendFault::Enquire(fault, detail))
             }
         }
     }

@@ -430,6 +430,8 @@ def started_otherwise(station: vector_file.Station, wrong: Other) -> str | None:
     got, wanted = wrong.got, wrong.wanted
     if not got:
         return None
+    if wire.is_fault(got, codec.NOT_ALLOWED):
+        return "it has a door, which doesn't let this connection send all that the vectors have"
     if wire.is_fault(got, codec.UNKNOWN_TABLE) and not wire.is_fault(wanted, codec.UNKNOWN_TABLE):
         return f"a fare table isn't there that it should have ({', '.join(map(str, station.revised)) or station.table})"
     if wire.is_fault(wanted, codec.UNKNOWN_TABLE) and not wire.is_fault(got, codec.UNKNOWN_TABLE):

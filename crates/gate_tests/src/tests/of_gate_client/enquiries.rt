@@ -2,7 +2,7 @@
 //! printed. The frames are those of PROTOCOL.md, "Requests and their answers".
 use super::sending::{Script, assert_printed, line_of};
 use super::*;
-use gate_client::{Holding, HoldingTold, TryFault, ask_after, enquire, enquired_by};
+use gate_client::{EnquireFault, Holding, HoldingTold, TryFault, ask_after, enquire, enquired_by};
 use oyster_account::{CardState, CardView};
 use test_streams::{Pieces, Taker};
 
@@ -152,7 +152,7 @@ fn asked_after<'a>(
     first: Option<&'a [u8]>,
     answers: &'a [Option<&'a [u8]>],
     tries: u32,
-) -> (Result<Holding, u32>, usize, usize) {
+) -> (Result<Holding, EnquireFault>, usize, usize) {
     let mut station = Script {
         alloc,
         answers,
@@ -166,7 +166,7 @@ fn asked_after<'a>(
             drop(line);
             Ok(holding)
         }
-        Err(tries) => Err(tries),
+        Err(fault) => Err(fault),
     };
     (done, station.asked, station.failed)
 }
@@ -175,11 +175,33 @@ fn asked_after<'a>(
 fn an_enquiry_goes_on_over_the_next_line(rt: HostRuntime) {
     let answers: [Option<&[u8]>; 4] = [None, Some(b""), Some(&ANSWER[..15]), Some(ANSWER)];
     let found = asked_after(&rt, rt.alloc(), None, &answers, 3);
-    assert_same(&rt, found, (Err(3), 3, 3));
+    assert_same(&rt, found, (Err(EnquireFault::Tries(3)), 3, 3));
     let found = asked_after(&rt, rt.alloc(), None, &answers, 4);
     assert_same(&rt, found, (Ok(HOLDING), 4, 3));
     let found = asked_after(&rt, rt.alloc(), Some(ANSWER), &[], 1);
     assert_same(&rt, found, (Ok(HOLDING), 0, 0));
+}
+
+#[test]
+fn only_what_is_not_allowed_ends_an_enquiry(rt: HostRuntime) {
+    for code in 0..=8 {
+        let fault = [0, 8, 0xff, code, 0, 0, 0, 0, 0, 0];
+        let answers: [Option<&[u8]>; 2] = [Some(&fault), Some(ANSWER)];
+        let found = asked_after(&rt, rt.alloc(), None, &answers, 2);
+        let want = if code == 7 {
+            (Err(EnquireFault::NotAllowed), 1, 0)
+        } else {
+            (Ok(HOLDING), 2, 1)
+        };
+        assert_same_at(&rt, found, want, &code);
+    }
+}
+
+#[test]
+fn faults_of_enquiries_print_their_names(rt: HostRuntime) {
+    let alloc = rt.alloc();
+    assert_printed(&rt, alloc, &EnquireFault::NotAllowed, "answer 7 NotAllowed");
+    assert_printed(&rt, alloc, &EnquireFault::Tries(10), "tries 10");
 }
 
 #[test]

@@ -292,7 +292,8 @@ fn the_stations_faults_end_the_settling_or_not(rt: HostRuntime) {
         (4, SettleFault::Tries(1)),
         (5, SettleFault::Full),
         (6, SettleFault::UnknownTable),
-        (7, SettleFault::Tries(1)),
+        (7, SettleFault::NotAllowed),
+        (8, SettleFault::Tries(1)),
     ] {
         let answer = [0, 8, 0xff, code, 0, 7, 0, 0, 0, 1];
         let (found, _, _) = settled(&rt, rt.alloc(), &mut client, None, &[Some(&answer)], 1);
@@ -356,6 +357,7 @@ fn faults_print_their_names(rt: HostRuntime) {
         &SettleFault::UnknownTable,
         "answer 6 UnknownTable",
     );
+    assert_printed(&rt, alloc, &SettleFault::NotAllowed, "answer 7 NotAllowed");
     let unheard = TryFault::Unheard(HearFault::NoAnswer);
     assert_printed(&rt, alloc, &unheard, "hear 1 NoAnswer");
 }
