@@ -149,7 +149,7 @@ ORDER BY origin, destination, origin_name, destination_name, origin_zones, desti
 
 -- name: origins
 -- What was charged by the station of the touch in: journeys, their single fares and charges; and the touches in and out that
--- are of no journey, with their maxima. Touches out without a touch in have no origin. Cards that are inside aren't counted.
+-- belong to no journey, with their maxima. Touches out without a touch in have no origin. Cards that are inside aren't counted.
 -- indexes: journeys_day
 SELECT origin, name, zones, sum(journeys) AS journeys, CASE WHEN count(fares) = count(*) THEN sum(fares) END AS fares,
        sum(charged) AS charged, sum(incomplete) AS incomplete, sum(maxima) AS maxima

@@ -131,9 +131,9 @@ class Loads(OverBothWithTown):
         missing = self.folder / "alder-1" / "end" / "station.journal"
         runs: tuple[tuple[list[str | int | pathlib.Path], str], ...] = (
                 (["--station", "Birch", "--server", "alder-1", "--journal", missing, *TABLES],
-                 "the server alder-1 is of the station Alder"),
+                 "the server alder-1 belongs to the station Alder"),
                 (["--station", "Alder", "--server", "alder-1", "--first-card", 2, "--journal", missing, *TABLES],
-                 "the server alder-1 has its cards from 1 on"),
+                 "the cards of the server alder-1 begin with 1"),
                 (["--station", "Alder", "--server", "alder-1", "--name", "next", "--journal", missing, *TABLES],
                  "the server alder-1 has the open journal station.journal"),
                 (["--station", "Alder", "--journal", missing, "--table", EXAMPLE], "fault journal 13 MissingTable"),

@@ -197,9 +197,9 @@ class Faults(SendTest):
         self.assertEqual((done.returncode, done.stdout, done.stderr.count("\n")), (0, ANSWERED[0] + "\n", 2))
 
     def test_a_pause_follows_when_each_address_has_failed(self) -> None:
-        """The first pause is of 3 to 6 seconds."""
+        """The first pause is of 6 to 12 seconds."""
         first, second = free_address(), free_address()
-        words = self.words("--new", "--tries", 4, first, second, pause=6000)
+        words = self.words("--new", "--tries", 4, first, second, pause=12_000)
         with subprocess.Popen(words, stdin=subprocess.PIPE, stderr=subprocess.PIPE, text=True) as gate:
             assert gate.stdin is not None and gate.stderr is not None
             gate.stdin.write(MORNING[0])
@@ -207,9 +207,9 @@ class Faults(SendTest):
             said = [(line, time.monotonic()) for line in gate.stderr]
         self.assertEqual([line for line, _ in said[:4]], [f"again {address} connect\n" for address in (first, second) * 2])
         gaps = [later - earlier for (_, earlier), (_, later) in zip(said[:3], said[1:4])]
-        self.assertLess(gaps[0], 2.5)
-        self.assertGreater(gaps[1], 2.9)
-        self.assertLess(gaps[2], 2.5)
+        self.assertLess(gaps[0], 5.5)
+        self.assertGreater(gaps[1], 5.9)
+        self.assertLess(gaps[2], 5.5)
 
     def test_a_station_that_is_silent_is_given_up(self) -> None:
         with socket.create_server(("127.0.0.1", 0)) as silent:

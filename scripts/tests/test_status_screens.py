@@ -130,7 +130,7 @@ class Journals(InAFolder):
         now = MONDAY + 40 * 86_400
         found = self.looked(frames, now)
         self.assertEqual((found["touches_a_day"], found["days_until_full"], found["full_on"]), (None, None, None))
-        self.assertIn("full        not known: no touch in the last 7 days, the newest is of 2025-01-15",
+        self.assertIn("full        not known: no touch in the last 7 days, the newest is from 2025-01-15",
                       screen(found, now))
 
     def test_each_gate_has_its_last_touch(self) -> None:
@@ -336,7 +336,7 @@ class Servers(InAFolder, harness.ProgramTest):
         code, lines, told = status(server.address, "--journal", server.journal, "--table", EXAMPLE, "--table", REVISED)
         self.assertEqual((code, told), (0, ""))
         self.assertEqual(lines[3:6], ["touches     5", "room        995 of 1,000 (0.5 % used)",
-                                      "full        not known: no touch in the last 7 days, the newest is of 2025-01-06"])
+                                      "full        not known: no touch in the last 7 days, the newest is from 2025-01-06"])
         self.assertEqual(lines[7], "inside      0 of 10 cards")
         self.assertRegex(lines[8], r"^last touch  touch out, 2025-01-06T08:25:00Z, \d+ days ago$")
         self.assertEqual(lines[9], "            gate 7, number 4, card 1, station 1")

@@ -260,7 +260,7 @@ def full(found: Found) -> str:
     if found["newest"] is None:
         return "not known: no touch yet"
     if found["touches_a_day"] is None:
-        return f"not known: no touch in the last 7 days, the newest is of {found['newest'][:10]}"
+        return f"not known: no touch in the last 7 days, the newest is from {found['newest'][:10]}"
     is_soon = found["full_on"] is not None and found["full_on"] < FAR
     when = f"in {found['days_until_full']:,.0f} days, on {found['full_on']}" if is_soon else f"not before {FAR}"
     pace = found["touches_a_day"]

@@ -1,4 +1,4 @@
--- Worked examples of what a running server tells.
+-- Worked examples of what a running server prints.
 use Rattle.std.proofs.Common.{◌≡◌, ℕ, true, false, [], ◌∷◌, Some, None, refl}
 use Rattle.office_lines.specs.declared.days.GateDay.{GateDay}
 use Rattle.office_lines.specs.declared.notice.Notice.TheVariants.{AllTaken, Free}

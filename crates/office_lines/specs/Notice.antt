@@ -1,4 +1,4 @@
--- What is told while a server runs (FAULTS.md, "What a running server tells"; this project's
+-- What a running server prints (FAULTS.md, "What a running server prints"; this project's
 -- choice).
 use Rattle.std.specs.Prelude.{ℕ, ◌*◌, ◌≤◌, Option, Some, None}
 use Rattle.tap_office.specs.declared.fault.SubmitFault.{SubmitFault}

@@ -93,9 +93,9 @@ def known(base: database.Database, asked: Asked) -> Loaded | None:
     """The row of the journal as it was loaded before, or None. What was said of its server then has to be so still."""
     server = base.row(Server, "SELECT station, first_card FROM servers WHERE name = :name", name=asked.server)
     if server and server["station"] != asked.station:
-        raise Refused(f"the server {asked.server} is of the station {server['station']}")
+        raise Refused(f"the server {asked.server} belongs to the station {server['station']}")
     if server and asked.first_card not in (None, server["first_card"]):
-        raise Refused(f"the server {asked.server} has its cards from {server['first_card']} on")
+        raise Refused(f"the cards of the server {asked.server} begin with {server['first_card']}")
     journal = base.row(Loaded, f"SELECT {COLUMNS} FROM journals WHERE server = :server AND name = :name",
                        server=asked.server, name=asked.name)
     if journal and asked.transfer_gate not in (None, journal["transfer_gate"]):
