@@ -8,7 +8,7 @@ use Rattle.gate_session.specs.declared.request.Request.TheVariants as requests
 use Rattle.reply_book.specs.Tables.{Tables}
 use Rattle.reply_book.specs.Lookup.{found, is_same_touch}
 use Rattle.reply_book.specs.View.{view_after}
-use Rattle.line_replay.specs.declared.hex_line.TheConstants.{LINE_LIMIT}
+use Rattle.line_replay.specs.declared.hex_line.TheConstants.{LINE_FEED, LINE_LIMIT}
 use Rattle.line_replay.specs.declared.fault.ReplayFault.{ReplayFault}
 use Rattle.line_replay.specs.declared.fault.ReplayFault.TheVariants as fault
 use Rattle.console.specs.Told.{told_trial}
@@ -60,6 +60,10 @@ empty_line tables = refl
 -- a line has at most 128 bytes before its line feed
 line_limit : LINE_LIMIT ≡ 128
 line_limit = refl
+
+-- a line feed is the byte 10
+line_feed : LINE_FEED ≡ 10
+line_feed = refl
 
 -- a revision takes 106 digits: here its digest is 32 bytes of 7, and its day 20095
 revision_line : request_of_line (codes "0033060007" ++ codes "00000006" ++ codes "00000000" ++ codes "0707070707070707"

@@ -1,5 +1,6 @@
 -- Worked examples of what a running server prints.
 use Rattle.std.proofs.Common.{◌≡◌, ℕ, true, false, [], ◌∷◌, Some, None, refl}
+use Rattle.office_lines.specs.declared.ahead.TheConstants.{GATES}
 use Rattle.office_lines.specs.declared.days.GateDay.{GateDay}
 use Rattle.office_lines.specs.declared.notice.Notice.TheVariants.{AllTaken, Free}
 use Rattle.office_lines.specs.Ahead.{told, told_at}
@@ -20,6 +21,10 @@ two-days = refl
 
 pub three-days : told_at (on 7 20458 ∷ on 8 20457 ∷ []) (on 7 20460) ≡ Some (on 7 20460)
 three-days = refl
+
+-- a gate's number has 16 bits
+pub gates : GATES ≡ 65_536
+gates = refl
 
 -- a single gate is ahead of nobody
 pub alone : told (on 9 47118 ∷ on 9 20458 ∷ []) ≡ []
