@@ -9,7 +9,8 @@ use Rattle.gate_client.specs.declared.attempt.TryFault.{TryFault}
 use Rattle.gate_client.specs.declared.attempt.TryFault.TheVariants.{Unheard}
 use Rattle.gate_client.specs.declared.settling.SettleFault.{SettleFault}
 use Rattle.gate_client.specs.declared.settling.SettleFault.TheVariants.{Conflict, Full}
-use Rattle.gate_client.specs.declared.settling.SettleFault.TheVariants.{UnknownTable, NotAllowed, Tries}
+use Rattle.gate_client.specs.declared.settling.SettleFault.TheVariants.{UnknownTable, NotAllowed}
+use Rattle.gate_client.specs.declared.settling.SettleFault.TheVariants.{Tries}
 
 -- what a fault prints behind `fault `
 abbrev pub printed_settle_fault : SettleFault → List ℕ

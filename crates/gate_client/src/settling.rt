@@ -48,8 +48,8 @@ pub enum SettleFault {
     Full,
     /// The station doesn't know the table that it names.
     UnknownTable,
-    /// The station doesn't allow it over this line. It may still stand in the history, by an earlier
-    /// try.
+    /// The station doesn't allow it over this line. An earlier try may have brought it into the
+    /// history.
     NotAllowed,
     /// So many tries as were allowed brought no reply.
     Tries(u32),

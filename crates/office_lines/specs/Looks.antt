@@ -1,5 +1,5 @@
 -- When it is told that gates wait while all lines are taken (FAULTS.md, "What a running server
--- tells"; this project's choice). A look is true where a gate waited then; lists of looks have the
+-- prints"; this project's choice). A look is true where a gate waited then; lists of looks have the
 -- last one first.
 use Rattle.std.specs.Prelude.{◌≡◌, ℕ, Bool, true, false, List, [], ◌∷◌, Option, Some, None}
 use Rattle.office_lines.specs.declared.looks.Looks.{Looks}
