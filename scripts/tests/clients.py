@@ -306,14 +306,7 @@ class Log:
         return [int(number) for name, number, _, _ in self.lines() if name == wanted]
 
 
-def wait_for(holds: Callable[[], object], seconds: float = 10) -> bool:
-    """Waits until it holds: whether it does."""
-    limit = time.monotonic() + seconds
-    while time.monotonic() < limit:
-        if holds():
-            return True
-        time.sleep(0.01)
-    return bool(holds())
+wait_for = harness.until
 
 
 def address_text(address: Sequence[Any]) -> str:

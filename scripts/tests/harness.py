@@ -13,8 +13,9 @@ import socket
 import subprocess
 import sys
 import tempfile
+import time
 import unittest
-from collections.abc import Iterable, Sequence
+from collections.abc import Callable, Iterable, Sequence
 from types import TracebackType
 from typing import IO, Any, TypeAlias
 
@@ -59,6 +60,23 @@ def free_port() -> int:
         port = random.randrange(10_000, max(HANDED_OUT, 20_000))
         with contextlib.suppress(OSError), socket.create_server(("127.0.0.1", port)):
             return port
+
+
+def until(holds: Callable[[], object], seconds: float = TIME) -> bool:
+    """Waits until this holds, or for so many seconds: whether it holds."""
+    limit = time.monotonic() + seconds
+    while time.monotonic() < limit:
+        if holds():
+            return True
+        time.sleep(0.01)
+    return bool(holds())
+
+
+def begin_in_day(day_of: Callable[[int], object]) -> None:
+    """Waits, if a new day begins within a minute: a test that takes less has one day from its beginning to its end.
+    `day_of` gives the day of a moment."""
+    while day_of(int(time.time())) != day_of(int(time.time()) + TIME):
+        time.sleep(0.5)
 
 
 def kit() -> pathlib.Path:

@@ -9,6 +9,7 @@ import time
 import unittest
 from collections.abc import Iterator
 
+import harness
 import paged
 from bovtrila import codec, model, table_file, wire
 from bovtrila.web import history as web_history, statement as web_statement
@@ -26,8 +27,9 @@ class Running(unittest.TestCase):
         room = tempfile.TemporaryDirectory(prefix="page-stand-ins-")
         self.addCleanup(room.cleanup)
         self.folder = pathlib.Path(room.name)
-        # The fare day that is under way at this moment.
+        # The fare day that is under way at this moment, and until the end of the test.
         self.clock = model.Schedule(table_file.read(EXAMPLE))
+        harness.begin_in_day(lambda moment: self.clock.stamp(moment).day)
         now = int(time.time())
         self.day = self.clock.stamp(now).day
         begin = next(moment for moment in range(now - now % 900, 0, -900) if self.clock.stamp(moment - 1).day < self.day)

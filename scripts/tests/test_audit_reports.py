@@ -15,6 +15,7 @@ import struct
 import subprocess
 import sys
 import tempfile
+import time
 import unittest
 import unittest.mock
 import xml.etree.ElementTree
@@ -24,7 +25,7 @@ from typing import Any
 
 from bovtrila import codec, day_charts, day_page, day_tally, history_rows, model, report_page, wire
 from bovtrila.commands import day_report
-from harness import BIN, EXAMPLE, TIME, TOP
+from harness import BIN, EXAMPLE, TIME, TOP, begin_in_day
 
 LONDON = zoneinfo.ZoneInfo("Europe/London")
 # Monday 2025-01-06, 00:00 UTC.
@@ -978,8 +979,13 @@ class Pages(ReportsTest):
 
     def test_yesterday_is_taken_for_a_day(self) -> None:
         """The touch was yesterday whatever the clock shows: at noon 24 hours ago, by this machine's clock."""
-        now = datetime.datetime.now(LONDON) - datetime.timedelta(hours=4, minutes=30)
-        date = (now.date() - datetime.timedelta(1)).isoformat()
+        def day_before(moment: float) -> str:
+            """The fare day before that of a moment."""
+            begins = datetime.timedelta(days=1, hours=4, minutes=30)
+            return (datetime.datetime.fromtimestamp(moment, LONDON) - begins).date().isoformat()
+
+        begin_in_day(day_before)
+        date = day_before(time.time())
         row = f"0,{date}T12:00:00Z,{date},7,1,6,issue,,,UnknownCard,0,0"
         self.assertIn(f" {date}</h1>", self.made([row], "--day", "yesterday"))
 

@@ -11,7 +11,7 @@ import tempfile
 import unittest
 
 from bovtrila import fare_changes, wire
-from harness import EXAMPLE, PROGRAM, REVISED, TIME, TOP, ProgramTest
+from harness import EXAMPLE, PROGRAM, REVISED, TIME, TOP, ProgramTest, begin_in_day
 from planted import Planted
 
 GATE = TOP / "bin" / "bovtrila-gate"
@@ -132,6 +132,7 @@ class Asking(InAFolder, ProgramTest):
     def revise(self, *words: object, days: int = 10, typed: str | None = None,
                new: pathlib.Path = REVISED) -> tuple[int, str]:
         """The status and standard error of a revision so many days ahead. What is typed goes to a terminal."""
+        begin_in_day(datetime.date.fromtimestamp)
         first = datetime.date.today() + datetime.timedelta(days)
         ours = theirs = None
         if typed is not None:

@@ -219,6 +219,7 @@ class Fares(harness.ProgramTest):
 
     def test_a_far_day_takes_a_word_of_its_own(self) -> None:
         station = self.station()
+        harness.begin_in_day(datetime.date.fromtimestamp)
         day = datetime.date.today() + datetime.timedelta(91)
         words = [word for word in station.words("--yes", first=day) if word != "--far"]
         done = subprocess.run([SCRIPT, *words], capture_output=True, text=True, timeout=TIME)
