@@ -344,12 +344,12 @@ class GateTest(unittest.TestCase):
         return running
 
     def serve(self, cards: int = 10, capacity: int = 1000, lines: int = 4, name: str = "journal") -> Any:
-        """A real server."""
+        """A real server, on a port that another one can have after it."""
         if not PROGRAM.is_file():
             raise FileNotFoundError(f"{PROGRAM} isn't there: run bin/bovtrila, or 'rt ci'")
         return self.start(PROGRAM, "serve", "--table", EXAMPLE, "--journal", self.folder / name, "--cards",
-                          cards, "--capacity", capacity, "--listen", "127.0.0.1:0", "--lines", lines, "--connections",
-                          1_000_000)
+                          cards, "--capacity", capacity, "--listen", f"127.0.0.1:{harness.free_port()}", "--lines", lines,
+                          "--connections", 1_000_000)
 
     def recorded(self, cards: int = 10, name: str = "journal") -> list[bytes]:
         """The touches of the real server's journal."""

@@ -3,6 +3,7 @@
 A test that the machine can't run is skipped, and a line reports the reason: it counts as neither.
 """
 import atexit
+import collections
 import contextlib
 import hashlib
 import os
@@ -53,13 +54,22 @@ atexit.register(AT_END.close)
 HANDED_OUT = int(pathlib.Path("/proc/sys/net/ipv4/ip_local_port_range").read_text().split()[0])
 
 
+# Each worker of pytest-xdist has ports of its own, so that none takes a port that another one was given and doesn't use yet.
+WORKER = int(os.environ.get("PYTEST_XDIST_WORKER", "gw0").removeprefix("gw"))
+WORKERS = int(os.environ.get("PYTEST_XDIST_WORKER_COUNT", "1"))
+# The ports that were given last.
+GIVEN: collections.deque[int] = collections.deque(maxlen=1000)
+
+
 def free_port() -> int:
     """A port of 127.0.0.1 on which nobody listens, and which the system hands to nobody who doesn't name it: a server can
-    take it later, whatever others do meanwhile."""
+    take it later, whatever others do meanwhile. The next 1000 calls give others."""
     while True:
-        port = random.randrange(10_000, max(HANDED_OUT, 20_000))
+        port = random.randrange(10_000 + WORKER, max(HANDED_OUT, 20_000), WORKERS)
         with contextlib.suppress(OSError), socket.create_server(("127.0.0.1", port)):
-            return port
+            if port not in GIVEN:
+                GIVEN.append(port)
+                return port
 
 
 def until(holds: Callable[[], object], seconds: float = TIME) -> bool:

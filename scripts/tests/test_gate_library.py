@@ -268,9 +268,9 @@ class Repeats(GateTest):
 
     def test_a_call_keeps_to_its_time(self) -> None:
         self.create()
-        silent, _ = wire.listener(("127.0.0.1", 0))
+        port = harness.free_port()
+        silent, _ = wire.listener(("127.0.0.1", port))
         with silent:
-            port = silent.getsockname()[1]
             for times, least, most in (((300, 2000, 1, 1), 0.29, 1.9), ((500, 100, 20, 20), 0.4, 5)):
                 with self.subTest(times), self.open(f"127.0.0.1:{port}", times=times) as asker:
                     begun = time.monotonic()

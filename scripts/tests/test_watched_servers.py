@@ -173,7 +173,7 @@ class Metrics(InAFolder, harness.ProgramTest):
         self.assertIn("the server is halted\n", exporter.end())
 
     def test_a_server_that_is_down_and_comes_back(self) -> None:
-        server = self.serve()
+        server = self.serve(listen=f"127.0.0.1:{harness.free_port()}")
         exporter = self.export(server)
         with server.connect() as gate:
             gate.ask(FIRST[0])
@@ -328,7 +328,8 @@ class Metrics(InAFolder, harness.ProgramTest):
 
     def test_one_of_several_servers_has_a_port_of_its_own(self) -> None:
         """That of the server and 5800 more: so two exporters of a machine don't meet."""
-        port = harness.free_port()
+        listens = harness.free_port()
+        port = listens - 5800
         config = self.folder / "alder-2.conf"
         config.write_text('SERVE="--table first.toml --journal station.journal --cards 10 --capacity 10 --listen '
                           f'192.168.7.2:{port} --lines 2"\n')
@@ -339,7 +340,7 @@ class Metrics(InAFolder, harness.ProgramTest):
                 said = [process.stderr.readline()]
                 while said[-1] and not said[-1].startswith("listening "):
                     said.append(process.stderr.readline())
-                self.assertEqual(said[-1], f"listening 127.0.0.1:{port + 5800}\n")
+                self.assertEqual(said[-1], f"listening 127.0.0.1:{listens}\n")
             finally:
                 process.kill()
 
