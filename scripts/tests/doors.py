@@ -13,7 +13,7 @@ import time
 from collections.abc import Iterable
 from typing import TypeAlias
 
-from harness import TIME, TOP, free_port
+from harness import TIME, TOP, free_port, until
 from bovtrila.commands.authority import CONFIG
 from listening import Door
 
@@ -87,6 +87,14 @@ def changes(tls: pathlib.Path, server: int, host: str = "127.0.0.1") -> tuple[Ch
             ("127.0.0.1:4014", f"127.0.0.1:{server}"))
 
 
+def listeners(port: int) -> set[str]:
+    """The sockets that listen on a port, by their numbers in the system's lists. No connection is made."""
+    lists = [path for path in (pathlib.Path("/proc/net/tcp"), pathlib.Path("/proc/net/tcp6")) if path.exists()]
+    rows = [line.split() for path in lists for line in path.read_text().splitlines()[1:]]
+    # Behind the row's number are the address, the other end's and the state, which is 0A of one that listens.
+    return {row[9] for row in rows if row[1].endswith(f":{port:04X}") and row[3] == "0A"}
+
+
 class Stunnel:
     """A running stunnel by one of the configurations of packaging/stunnel, with other paths and ports."""
 
@@ -109,11 +117,12 @@ class Stunnel:
             time.sleep(0.02)
 
     def reload(self) -> None:
-        count = self.log.read_text().count("Configuration successful")
+        """Returns once it listens with the new configuration. It reports that it has read it, and only then closes the
+        socket that listened and makes another one."""
+        before = listeners(self.port)
         self.process.send_signal(signal.SIGHUP)
-        limit = time.monotonic() + TIME
-        while self.log.read_text().count("Configuration successful") == count and time.monotonic() < limit:
-            time.sleep(0.02)
+        if not until(lambda: listeners(self.port) - before):
+            raise AssertionError(self.log.read_text())
 
     def end(self) -> None:
         self.process.kill()

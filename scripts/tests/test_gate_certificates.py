@@ -3,6 +3,7 @@ certificates of bovtrila-authority. A relay between the two counts the bytes tha
 127.0.0.1.
 """
 import pathlib
+import re
 import shutil
 import socket
 import ssl
@@ -120,8 +121,9 @@ class Doors(Behind):
                 # The alert may be lost where the connection is closed over the bytes that the gate has sent by then.
                 self.assertTrue("TLS: " in told and reason in told or "reset by peer" in told, told)
                 self.assertEqual((self.relay.connections, self.relay.bytes), (0, 0))
-                # stunnel itself has a reason for each.
-                self.assertRegex(self.front.log.read_text()[said:], STUNNEL[name])
+                # stunnel itself has a reason for each, which it may write after the gate has its alert.
+                self.assertTrue(harness.until(lambda: re.search(STUNNEL[name], self.front.log.read_text()[said:])),
+                                self.front.log.read_text()[said:])
         self.assertEqual(self.gate(*self.words()), (0, ANSWERS, ""))
 
     def test_whoever_shows_no_certificate_gets_nothing(self) -> None:
