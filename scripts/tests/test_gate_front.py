@@ -90,20 +90,21 @@ class Doors(Behind):
     def test_a_handshake_that_does_not_come(self) -> None:
         """Neither its first byte nor the rest of it: the connection ends after HANDSHAKE, and its address may have only so
         many at once."""
-        self.serve(HANDSHAKE="2s", ADDRESS_CONNECTIONS=12)
+        self.serve(HANDSHAKE="6s", ADDRESS_CONNECTIONS=12)
         with self.steady():
             begun, before = time.monotonic(), self.relay.connections
             silent = [Line(self.front.port, None, BAD) for _ in range(20)]
             for line in silent[:5]:
                 # The beginning of a ClientHello.
                 line.send(bytes.fromhex("16030100a0"))
-            # Those above the limit of an address end at once, whichever of HAProxy's threads has them.
-            time.sleep(1)
-            ready, _, _ = select.select([line.socket for line in silent], [], [], 0)
-            self.assertEqual(len(ready), 8)
+            # Those above the limit of an address end at once, whichever of HAProxy's threads has them, and no others.
+            sockets = [line.socket for line in silent]
+            harness.until(lambda: len(select.select(sockets, [], [], 0)[0]) >= 8)
+            time.sleep(0.5)
+            self.assertEqual(len(select.select(sockets, [], [], 0)[0]), 8)
             for line in silent:
                 self.ended(line)
-            self.assertTrue(2 <= time.monotonic() - begun < 2 + SOON)
+            self.assertTrue(6 <= time.monotonic() - begun < 6 + SOON)
             self.assertEqual(self.relay.connections, before)
             self.assertEqual(self.until(r"refused: .*Timeout during SSL handshake", 12), ["-"] * 12)
 
@@ -151,7 +152,8 @@ class Floods(Behind):
         with self.steady():
             lines = [line for line in (self.answered() for _ in range(10)) if line]
             self.assertEqual(len(lines), CONNECTIONS)
-            self.assertEqual(self.until("refused: 3 connections at once, the limit is 2 ", 8), ["7"] * 8)
+            # One may come before the one before it is no more counted.
+            self.assertEqual(self.until("refused: (?:[3-9]|10) connections at once, the limit is 2 ", 8), ["7"] * 8)
             # They are answered all the time, on each connection that is allowed. The others are answered beside.
             limit = time.monotonic() + 2
             while time.monotonic() < limit:
@@ -269,7 +271,7 @@ class Reloads(Behind):
 
     def test_a_certificate_that_is_revoked(self) -> None:
         """No new connection from the reload on. The one that is there continues, and so do all others, until OLD."""
-        self.serve(OLD="4s")
+        self.serve(OLD="8s")
         gate, revoked = self.line("8", GOOD), self.line("7")
         for line in (gate, revoked):
             self.assertEqual(line.ask()[2], codec.HOLDING)
@@ -286,7 +288,7 @@ class Reloads(Behind):
         self.assertIsNotNone(self.answered("8", GOOD))
         assert other, "it was answered before the reload"
         for line in (gate, revoked, other):
-            self.assertLess(self.ended(line) - begun, 4 + SOON)
+            self.assertLess(self.ended(line) - begun, 8 + SOON)
         # It connects again, as a gate does.
         self.assertIsNotNone(self.answered("8", GOOD))
         self.assertEqual(authority("gate", self.tls, "7")[0], 0)
@@ -297,20 +299,25 @@ class Reloads(Behind):
     def test_touches_beside_a_reload(self) -> None:
         """A connection from before it isn't interrupted, and the server's new certificate is shown from then on."""
         self.serve()
-        context = self.known("9").context
-        serials = []
         with self.steady():
-            for _ in range(2):
-                with socket.create_connection((GOOD, self.front.port), TIME) as plain:
-                    with context.wrap_socket(plain, server_hostname=GOOD) as line:
-                        shown = line.getpeercert()
-                        assert shown, "the server has a certificate"
-                        serials.append(shown["serialNumber"])
-                if len(serials) == 1:
-                    self.assertEqual(authority("renew", self.tls)[0], 0)
-                    shutil.copy(self.tls / "server.key", self.tls / "server.pem.key")
-                    self.front.reload()
-        self.assertNotEqual(*serials)
+            before = self.serial()
+            self.assertEqual(authority("renew", self.tls)[0], 0)
+            shutil.copy(self.tls / "server.key", self.tls / "server.pem.key")
+            self.front.reload()
+            # The process from before the reload takes connections until it has its signal.
+            limit = time.monotonic() + TIME
+            while (shown := self.serial()) == before and time.monotonic() < limit:
+                time.sleep(0.5)
+            self.assertNotEqual(shown, before)
+            self.assertEqual(self.serial(), shown)
+
+    def serial(self) -> object:
+        """The serial number of the certificate that the server shows to gate 9."""
+        with socket.create_connection((GOOD, self.front.port), TIME) as plain:
+            with self.known("9").context.wrap_socket(plain, server_hostname=GOOD) as line:
+                shown = line.getpeercert()
+                assert shown, "the server has a certificate"
+                return shown["serialNumber"]
 
     def test_a_configuration_that_is_refused_changes_nothing(self) -> None:
         self.serve()
