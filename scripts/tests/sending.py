@@ -51,11 +51,14 @@ class SendTest(harness.ProgramTest):
         self.addCleanup(server.kill)
         return server
 
-    def words(self, *more: object, gate: int | str = 7, timeout: int = 1000, pause: int = 5) -> list[str]:
+    # A station that is there has answered by then, however busy the machine and its disk are.
+    TIMEOUT = 30_000
+
+    def words(self, *more: object, gate: int | str = 7, timeout: int = TIMEOUT, pause: int = 5) -> list[str]:
         return [str(GATE_SEND), "--gate", str(gate), "--file", str(self.file), "--timeout", str(timeout),
                 "--pause", str(pause), *map(str, more)]
 
-    def send(self, lines: Iterable[str], *more: object, gate: int | str = 7, timeout: int = 1000) -> Ended:
+    def send(self, lines: Iterable[str], *more: object, gate: int | str = 7, timeout: int = TIMEOUT) -> Ended:
         """A run on these lines: its status, the lines that it printed, and what stands on standard error."""
         given = "".join(f"{line}\n" for line in lines)
         words = self.words(*more, gate=gate, timeout=timeout)

@@ -409,8 +409,9 @@ class StandIn(MakersTest):
 
     def judged(self, text: str, gate: type[Any] = Gate,
                opens: Callable[[bytes, bytes], bool] = wire.opens) -> tuple[int, list[str]]:
-        """What the stand-in says of a gate that sends the first example."""
-        rig = Rig(self, text, gate, timeout=0.2)
+        """What the stand-in says of a gate that sends the first example. It waits for an answer that comes, however busy the
+        machine is."""
+        rig = Rig(self, text, gate, timeout=0.2 if "late" in text else 3 if "silence" in text else TIME)
         for frame in self.touches:
             try:
                 answer = rig.gate.ask(frame)
@@ -438,8 +439,8 @@ class StandIn(MakersTest):
         text = "answer\nsilence\nanswer\nfault 3\ncut 7 answer\nanother answer\nrest answer\n"
         # It ends by itself, once nothing has come for this long.
         running = self.start(BIN / "bovtrila-stand-in", "127.0.0.1:0", self.write("script", text), "--barrier", pipe,
-                             "--linger", 3)
-        done = script("gate", running.text, TOP / "crates/tap_server/stdin", "--repeat", "--timeout", 2, "--backoff",
+                             "--linger", 6)
+        done = script("gate", running.text, TOP / "crates/tap_server/stdin", "--repeat", "--timeout", 5, "--backoff",
                       0.01, "--barrier", pipe)
         self.assertEqual((done.returncode, done.stderr.count("again")), (0, 4), done.stderr)
         self.assertEqual(running.end()[:2][1][-1], "4 passed, 0 failed")
@@ -661,7 +662,8 @@ class Revised(MakersTest):
         more = [word for path in revised for word in ("--revision", path)]
         running = self.start(BIN / "bovtrila-stand-in", "127.0.0.1:0", self.write("script", text), *more, "--linger", TIME,
                              "--patience", TIME)
-        done = script("gate", running.text, *asked, "--timeout", 0.3, "--backoff", 0.01, *words)
+        done = script("gate", running.text, *asked, "--timeout", 3 if "silence" in text else TIME / 2, "--backoff", 0.01,
+                      *words)
         return done, running.end(terminate=True)[1][-1]
 
     def test_the_frame_is_the_tables_digest_from_that_day_on(self) -> None:

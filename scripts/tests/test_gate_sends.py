@@ -214,7 +214,7 @@ class Faults(SendTest):
     def test_a_station_that_is_silent_is_given_up(self) -> None:
         with socket.create_server(("127.0.0.1", 0)) as silent:
             address = f"127.0.0.1:{silent.getsockname()[1]}"
-            words = self.words("--new", address, address_of(self.station()), timeout=1000)
+            words = self.words("--new", address, address_of(self.station()), timeout=3000)
             begun = time.monotonic()
             done = subprocess.run(words, input=MORNING[0], capture_output=True, text=True, timeout=TIME)
             self.assertLess(time.monotonic() - begun, 15)
