@@ -195,7 +195,7 @@ class Files(GateTest):
         with self.open(["later.test:1"], times=(300, 100, 20, 40), **log.options()) as asker:
             begun = time.monotonic()
             self.assertEqual(asker.ask(clients.act_of(FIRST[0])), [RESULT["NO_ANSWER"], 1, 0, 0, 0, 0])
-            self.assertLess(time.monotonic() - begun, 5)
+            self.assertLess(time.monotonic() - begun, 20)
             self.assertEqual(asker.ask("error"), [errno.EHOSTUNREACH])
 
     def test_a_full_file_takes_no_touch(self) -> None:

@@ -337,7 +337,7 @@ class StartedExamples(GateTest):
         self.assertEqual([self.next_line(machine) for _ in range(2)],
                          ["card 1 holds 2000\n", "given back: above the balance limit\n"])
         # It waits for the next line by then, with the mark written.
-        self.assertTrue(clients.wait_for(lambda: self.file.with_name("7.done").exists()))
+        self.assertTrue(clients.wait_for(self.is_marked))
         machine.kill()
         machine.wait(TIME)
         machine = self.started(program)

@@ -271,16 +271,16 @@ class Repeats(GateTest):
         port = harness.free_port()
         silent, _ = wire.listener(("127.0.0.1", port))
         with silent:
-            for times, least, most in (((300, 2000, 1, 1), 0.29, 1.9), ((500, 100, 20, 20), 0.4, 5)):
+            for times, least in (((300, 60_000, 1, 1), 0.29), ((500, 100, 20, 20), 0.4)):
                 with self.subTest(times), self.open(f"127.0.0.1:{port}", times=times) as asker:
                     begun = time.monotonic()
                     self.assertEqual(asker.ask("enquire 1")[0], RESULT["NO_ANSWER"])
                     self.assertGreater(time.monotonic() - begun, least)
-                    self.assertLess(time.monotonic() - begun, most)
+                    self.assertLess(time.monotonic() - begun, 20)
         with self.open(f"127.0.0.1:{port}", times=(400, 100, 10, 10)) as asker:
             begun = time.monotonic()
             self.assertEqual(asker.ask("enquire 1")[0], RESULT["NO_ANSWER"])
-            self.assertLess(time.monotonic() - begun, 5)
+            self.assertLess(time.monotonic() - begun, 20)
             self.assertIn(asker.ask("error"), ([errno.ECONNREFUSED], [errno.ETIMEDOUT]))
 
     def test_waits_grow_and_stay_below_the_longest(self) -> None:
@@ -292,13 +292,14 @@ class Repeats(GateTest):
             taken.append(time.monotonic())
             connection.close()
 
-        with Door(hang_up) as door, self.open(door.text, times=(1500, 1000, 50, 200)) as asker:
+        with Door(hang_up) as door, self.open(door.text, times=(6000, 4000, 50, 200)) as asker:
             begun = time.monotonic()
             self.assertEqual(asker.ask("enquire 1")[0], RESULT["NO_ANSWER"])
         # 50, 100, 200, 200 .. milliseconds, each shorter by up to a half; a busy machine is late, and never early.
         for place, least in enumerate((0, 0.024, 0.073, 0.172, 0.271)):
             self.assertGreater(taken[place] - begun, least, taken)
-        self.assertGreater(len(taken), 1500 / 200 - 3, taken)
+        # Without a longest wait there are 8 at most, however fast the machine is.
+        self.assertGreater(len(taken), 12, taken)
 
     def test_the_addresses_are_tried_in_turn(self) -> None:
         self.create()
