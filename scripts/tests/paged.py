@@ -90,7 +90,8 @@ class Exporter:
     """A running exporter, with its page."""
 
     def __init__(self, *words: object, every: str = "0.05", env: dict[str, str] | None = None) -> None:
-        command = [str(TOP / "bin" / "bovtrila-exporter"), "--listen", "127.0.0.1:0", "--every", every, "--timeout", "0.5"]
+        # A check that lasts four times as long is shown as one that hangs.
+        command = [str(TOP / "bin" / "bovtrila-exporter"), "--listen", "127.0.0.1:0", "--every", every, "--timeout", "30"]
         self.process = subprocess.Popen([*command, *map(str, words)], stderr=subprocess.PIPE, text=True, env=env)
         assert self.process.stderr is not None
         self.said = [self.process.stderr.readline()]

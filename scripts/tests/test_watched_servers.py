@@ -60,7 +60,8 @@ class Exporter:
     """A running exporter."""
 
     def __init__(self, *words: object) -> None:
-        command = [str(word) for word in (EXPORTER, "--listen", "127.0.0.1:0", "--every", "0.05", "--timeout", "0.5",
+        # A server that is there has answered by then, however busy the machine is.
+        command = [str(word) for word in (EXPORTER, "--listen", "127.0.0.1:0", "--every", "0.05", "--timeout", TIME / 2,
                                           *words)]
         self.process = subprocess.Popen(command, stderr=subprocess.PIPE, text=True)
         assert self.process.stderr, "a pipe"
@@ -72,9 +73,17 @@ class Exporter:
     def now(self) -> dict[str, float]:
         return metrics_of(fetch(self.url))
 
+    def hear(self, line: str) -> None:
+        """Reads standard error until a line has this text. The metrics show what is reported some moments before it is."""
+        assert self.process.stderr, "a pipe"
+        while line not in self.said[-1]:
+            self.said.append(self.process.stderr.readline())
+            if not self.said[-1]:
+                raise AssertionError(f"{line!r} isn't in {self.said}")
+
     def until(self, **wanted: float | None) -> dict[str, float]:
-        """The metrics, once these have these values, or after some seconds whatever they are."""
-        limit = time.monotonic() + 20
+        """The metrics, once these have these values, or after a minute whatever they are."""
+        limit = time.monotonic() + TIME
         while True:
             found = self.now()
             if time.monotonic() > limit or all(found.get(name) == value for name, value in wanted.items()):
@@ -130,11 +139,12 @@ class Metrics(InAFolder, harness.ProgramTest):
         with server.connect() as gate:
             for count, frame in enumerate(FIRST, 1):
                 gate.ask(frame)
-                found = exporter.until(touches=count, room=1000 - count)
+                found = exporter.until(touches=count, room=1000 - count, halted=0)
                 self.assertEqual((found["touches"], found["room"], found["halted"]), (count, 1000 - count, 0))
         self.assertLess(abs(time.time() - found["last_touch_timestamp_seconds"]), TIME)
         # The times of all enquiries stand in the histogram, each below the highest bound.
-        found = exporter.until()
+        harness.until(lambda: exporter.now()["enquiry_seconds_count"] > 4)
+        found = exporter.now()
         enquiries = found["enquiry_seconds_count"]
         self.assertGreater(enquiries, 4)
         self.assertEqual(found['enquiry_seconds_bucket{le="+Inf"}'], enquiries)
@@ -170,7 +180,7 @@ class Metrics(InAFolder, harness.ProgramTest):
         self.assertEqual([answer[2] for answer in answers], [codec.REPLY, codec.REPLY, codec.FAULT])
         found = exporter.until(halted=1, touches=2)
         self.assertEqual((found["up"], found["halted"], found["touches"]), (1, 1, 2))
-        self.assertIn("the server is halted\n", exporter.end())
+        exporter.hear("the server is halted\n")
 
     def test_a_server_that_is_down_and_comes_back(self) -> None:
         server = self.serve(listen=f"127.0.0.1:{harness.free_port()}")
@@ -178,22 +188,24 @@ class Metrics(InAFolder, harness.ProgramTest):
         with server.connect() as gate:
             gate.ask(FIRST[0])
         self.assertEqual(exporter.until(up=1, touches=1)["up"], 1)
+        heard = len(exporter.said)
         server.kill()
         found = exporter.until(up=0)
         # The journal tells what the server doesn't; whether it is halted isn't known.
         self.assertEqual((found["up"], found["touches"], found["room"], "halted" in found), (0, 1, 999, False))
         again = self.serve(listen="%s:%d" % server.address)
         self.assertEqual(exporter.until(up=1)["up"], 1)
+        exporter.hear("doesn't answer")
+        exporter.hear("the server answers\n")
         again.kill()
-        said = exporter.end()
-        self.assertIn("doesn't answer", said)
+        said = "".join(exporter.said[heard:]) + exporter.end()
         self.assertEqual(said.count("the server answers\n"), 1)
 
     def test_a_server_whose_lines_are_all_taken_does_not_answer(self) -> None:
         server = self.serve(lines=1)
         with server.connect() as gate:
             gate.ask(FIRST[0])
-            exporter = self.export(server)
+            exporter = self.export(server, "--timeout", 0.5)
             self.assertEqual(exporter.now()["up"], 0)
         self.assertEqual(exporter.until(up=1)["up"], 1)
 
@@ -231,12 +243,11 @@ class Metrics(InAFolder, harness.ProgramTest):
         exporter = self.export(None, "--config", config, "--folder", self.folder)
         exporter.until(up=1)
         config.write_text(f"{good}lines = two\n")
-        time.sleep(0.5)
+        exporter.hear(f"{config}: line 6: lines: 'two' is no number from 1 to 64")
         found = exporter.now()
         self.assertEqual((found["up"], found["capacity"]), (1, 1000))
         answer = json.loads(fetch(exporter.url.replace("/metrics", "/health")))
         self.assertEqual((answer["healthy"], answer["why"]), (True, None))
-        self.assertIn(f"{config}: line 6: lines: 'two' is no number from 1 to 64", exporter.end())
 
     def test_a_journal_that_grows_and_is_replaced(self) -> None:
         journal, address = self.folder / "journal", "127.0.0.1:1"
@@ -345,8 +356,8 @@ class Metrics(InAFolder, harness.ProgramTest):
                 process.kill()
 
     def health(self, exporter: Exporter, healthy: bool) -> tuple[int, dict[str, Any]]:
-        """The status and the line of JSON at /health, once it says so, or after some seconds whatever it says."""
-        limit = time.monotonic() + 20
+        """The status and the line of JSON at /health, once it says so, or after a minute whatever it says."""
+        limit = time.monotonic() + TIME
         while True:
             try:
                 with urllib.request.urlopen(exporter.url.replace("/metrics", "/health"), timeout=TIME) as answer:
