@@ -41,6 +41,16 @@ class Server:
     def connect(self) -> "Gate":
         return Gate(self.address)
 
+    def unread(self) -> int:
+        """How many bytes that gates have sent the server hasn't read yet, by the system's list of connections."""
+        port, count = f":{self.address[1]:04X}", 0
+        for line in pathlib.Path("/proc/net/tcp").read_text().splitlines()[1:]:
+            # Behind the line's number stand both addresses, the state, and the bytes to be acknowledged and to be read.
+            fields = line.split()
+            if fields[1].endswith(port) and fields[3] == "01":
+                count += int(fields[4].partition(":")[2], 16)
+        return count
+
     def end(self) -> tuple[int, list[str], str]:
         """The status and the output, once all connections were served."""
         out, err = self.process.communicate(timeout=TIME)

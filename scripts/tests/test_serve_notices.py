@@ -163,7 +163,7 @@ class Halts(NoticeTest):
             silent.send(codec.enquiry(1))
             self.assertEqual(len(silent.take()), 16)
             cut.send(FIRST[1][0][:5])
-            time.sleep(0.2)
+            self.assertTrue(harness.until(lambda: server.unread() == 0))
             with server.connect() as gate:
                 self.assertEqual(gate.ask(FIRST[1][0]), codec.fault(codec.HALTED, 7, 2))
                 self.ends(server, 1)
@@ -407,9 +407,10 @@ class Threads(NoticeTest):
             served = int(said[1])
             self.assertTrue(1 <= served < lines, said)
             # So many gates are served at once, and one more waits until one of them has gone.
-            others = [server.connect() for _ in range(served)]
-            for other in others[:-1]:
+            others = [server.connect() for _ in range(served - 1)]
+            for other in others:
                 self.assertEqual(len(other.ask(codec.enquiry(1))), 16)
+            others.append(server.connect())
             others[-1].send(codec.enquiry(1))
             others[-1].socket.settimeout(0.5)
             with self.assertRaises(TimeoutError):
@@ -419,7 +420,8 @@ class Threads(NoticeTest):
         for other in others:
             other.socket.close()
         server.process.terminate()
-        self.assertEqual(server.end()[2], "")
+        # On a busy machine the gate that waited may have done so at two looks, a second apart.
+        self.assertRegex(server.end()[2], rf"\A(all lines taken {served}\n(lines free\n)?)?\Z")
 
     def test_lines_that_all_serve_are_not_told(self) -> None:
         server = self.serve(lines=40)
@@ -508,8 +510,8 @@ class Reports(NoticeTest):
             for asked, answered in FIRST:
                 self.assertEqual(gate.ask(asked), answered)
             time.sleep(1.5)
-            self.told(server)
             begun = time.monotonic()
+            self.told(server)
             time.sleep(5)
             lines = self.told(server).splitlines()
             seconds = time.monotonic() - begun
@@ -540,10 +542,11 @@ class Slow(NoticeTest):
                     except TimeoutError:
                         pass
             self.assertTrue(1.5 < time.monotonic() - begun < SOON)
+        server.kill()
         # A gate that sends whole requests may go on as long as it likes.
-        with server.connect() as gate:
+        with self.serve(more=["--idle", "6"]).connect() as gate:
             for asked, answered in FIRST:
-                time.sleep(0.7)
+                time.sleep(1.5)
                 gate.send(asked[:5])
                 time.sleep(0.3)
                 gate.send(asked[5:])
@@ -554,7 +557,7 @@ class Slow(NoticeTest):
         for behind in (1, 1_000, 300_000):
             with server.connect() as gate:
                 gate.send(bytes.fromhex("001106"))
-                time.sleep(0.1)
+                select.select([gate.socket], [], [], TIME)
                 gate.send(b"\0" * behind)
                 time.sleep(0.2)
                 self.assertEqual((gate.take(), gate.take()), (codec.fault(codec.BAD_FRAME), b""))
@@ -587,4 +590,6 @@ class Slow(NoticeTest):
         self.assertEqual((wrong, server.process.poll()), ([], None))
         server.process.terminate()
         status, out, err = server.end()
-        self.assertEqual((status, out, err), (-15, ["opened 0"], ""))
+        self.assertEqual((status, out), (-15, ["opened 0"]))
+        # A gate that is quicker than the line of the one before it may wait at two looks, a second apart.
+        self.assertLessEqual(set(err.splitlines()), {"all lines taken 2", "lines free"})
