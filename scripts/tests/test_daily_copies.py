@@ -315,6 +315,9 @@ class Copies(harness.ProgramTest):
         try:
             runs = []
             for _ in range(5):
+                # The last copy may have a touch whose answer was on its way. However slow the disk is, a second one follows.
+                last = len(sent)
+                harness.until(lambda: len(sent) > last + 1)
                 count = len(sent)
                 runs.append((*self.keep(), count))
         finally:

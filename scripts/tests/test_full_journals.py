@@ -117,7 +117,7 @@ class Steps(Stations):
     def test_touches_that_still_come_are_told(self) -> None:
         station = self.station(capacity=1000)
         station.start()
-        words = [str(word) for word in (SCRIPT, *station.words, "--settled", "--watch", "2")]
+        words = [str(word) for word in (SCRIPT, *station.words, "--settled", "--watch", "5")]
         with subprocess.Popen(words, stdout=subprocess.PIPE, stderr=subprocess.PIPE, text=True) as running:
             assert running.stderr, "a pipe"
             limit = time.monotonic() + TIME
@@ -128,7 +128,7 @@ class Steps(Stations):
                 time.sleep(0.05)
             err = running.stderr.read()
         self.assertEqual(running.returncode, 1)
-        self.assertRegex(err, r"^next-journal: \d+ touches came within 2 s: wait until each gate has its answers")
+        self.assertRegex(err, r"^next-journal: \d+ touches came within 5 s: wait until each gate has its answers")
         self.assertTrue(serving.has_server(station.old))
 
     def test_an_old_journal_that_grew_in_between_is_told(self) -> None:

@@ -130,6 +130,8 @@ class Loaded(harness.ProgramTest):
         for thread in threads:
             thread.start()
         if after is not None:
+            # However late the gates of a busy machine begin, the load is there from the first reply on.
+            harness.until(lambda: any(thread.answered > self.answered[thread.gate] for thread in threads))
             threading.Event().wait(after)
             server.process.kill()
         for thread in threads:

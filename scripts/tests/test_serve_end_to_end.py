@@ -517,7 +517,11 @@ class Kills(ServerTest):
         wanted = {number: answers(frames) for number, frames in gates.items()}
         had = {number: 0 for number in gates}
         wrong: list[tuple[int, int, str]] = []
-        for _ in range(KILLS):
+        kills = 0
+        # A slow disk takes more of them until each gate was answered often enough.
+        while kills < KILLS or min(had.values()) <= 10:
+            kills += 1
+            self.assertLess(kills, 10 * KILLS, had)
             server = self.serve(lines=4, connections=10, capacity=10_000)
 
             def drive(number: int) -> None:
@@ -549,7 +553,6 @@ class Kills(ServerTest):
                 # The answered touches are there, and at most the one in flight beside them.
                 self.assertEqual(kept, gates[number][:len(kept)])
                 self.assertIn(len(kept) - had[number], (0, 1))
-        self.assertGreater(min(had.values()), 10)
         server = self.serve(lines=4, capacity=10_000)
         with server.connect() as gate:
             for number, frames in gates.items():

@@ -195,6 +195,7 @@ class TakeOver(harness.ProgramTest):
             gate.start()
         took = []
         try:
+            self.assertTrue(harness.until(lambda: all(gate.answered for gate in gates)))
             for number in range(ROUNDS):
                 serving = number % 2
                 with self.subTest(round=number + 1):

@@ -174,7 +174,7 @@ class Unattended(Stations):
         self.assertTrue(serving.has_server(station.old))
 
     def test_the_server_is_stopped_after_a_time_without_a_touch(self) -> None:
-        station, watch, limit = self.station(capacity=20), 3, time.monotonic() + RUN
+        station, watch, limit = self.station(capacity=20), 8, time.monotonic() + RUN
         station.start()
         stopped = station.folder.parent / "stopped-at"
         stop = station.words[station.words.index("--stop") + 1]
@@ -185,7 +185,7 @@ class Unattended(Stations):
             while not (station.folder / "after-station.journal" / "left").exists():
                 self.assertIsNone(running.poll())
                 self.assertLess(time.monotonic(), limit)
-            time.sleep(watch / 2)
+            time.sleep(watch / 4)
             sent = time.time()
             touch = codec.touch(codec.TOP_UP, 7, 900, 5, 300, MORNING + 900)
             self.assertEqual(wire.in_words(touch, station.ask(touch)), "topped up; change 300, balance 300")
