@@ -46,11 +46,11 @@ class Shell:
     def send(self, keys: bytes) -> None:
         os.write(self.terminal, keys)
 
-    def told(self, until: str | None = None) -> str:
+    def told(self, until: str | None = None, silence: float = SILENCE) -> str:
         """What the shell writes until something of this form, or until it is silent."""
         said, begun = "", time.monotonic()
         while time.monotonic() < begun + TIME and not (until and re.search(until, said)):
-            if select.select([self.terminal], [], [], SILENCE)[0]:
+            if select.select([self.terminal], [], [], silence)[0]:
                 said += CONTROL.sub("", os.read(self.terminal, 65536).decode(errors="replace"))
             elif until is None:
                 break
@@ -69,10 +69,14 @@ class Shell:
         return shown[1]
 
     def offered(self, line: str) -> list[str]:
-        """The words that are offered behind this line."""
-        self.told()
-        self.send(KILL_LINE + line.encode() + TAB + TAB)
-        return self.told().split()
+        """The words that are offered behind this line. A busy machine may take longer for them than a shell is silent."""
+        for silence in (SILENCE, 10 * SILENCE, 100 * SILENCE):
+            self.told()
+            self.send(KILL_LINE + line.encode() + TAB + TAB)
+            words = self.told(silence=silence).split()
+            if {word.strip("\b") for word in words} - {"", *line.split(), PROMPT.strip()}:
+                break
+        return words
 
 
 class Bash(Shell):
