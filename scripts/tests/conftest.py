@@ -4,8 +4,11 @@ The last line is 'N passed, M failed', where a test counts as one, and each of i
 machine can't run is skipped, and a line 'not run: REASON' has each reason once: it counts as neither.
 """
 import collections
+import os
+import pathlib
 import signal
 import sys
+import time
 from collections.abc import Iterable, Iterator
 from typing import Any
 
@@ -37,6 +40,26 @@ def pytest_collection_modifyitems(items: list[pytest.Item]) -> None:
     items.sort(key=lambda item: order.index(ROW_OF.get(item.path.name)))
     for item in items:
         item.add_marker(pytest.mark.xdist_group(ROW_OF.get(item.path.name, item.path.stem)))
+    Zone.name = os.environ.get("TZ")
+
+
+class Zone:
+    """The time zone when all files were read, and the file that was begun in it last."""
+
+    name: str | None = None
+    file: pathlib.Path | None = None
+
+
+@pytest.hookimpl(tryfirst=True)
+def pytest_runtest_setup(item: pytest.Item) -> None:
+    """Begins each file in the same time zone. A fare table of bovtrila.model sets that of its process, and which files a
+    worker has run before differs from run to run."""
+    if item.path != Zone.file:
+        Zone.file = item.path
+        os.environ.pop("TZ", None)
+        if Zone.name is not None:
+            os.environ["TZ"] = Zone.name
+        time.tzset()
 
 
 @pytest.hookimpl(hookwrapper=True)
