@@ -1,6 +1,5 @@
 """Losses of power of a gate's disk: the files that each moment of a run of gate_send may leave, and the runs that continue
 from them. For scripts/tests/test_gate_sends.py."""
-import os
 import random
 import re
 import shutil
@@ -10,7 +9,7 @@ from typing import NamedTuple
 
 import power
 from bovtrila import codec, layout, model
-from harness import EXAMPLE, TIME
+from harness import EXAMPLE, TIME, in_memory
 from running import Server
 from sending import SendTest, address_of, tag, touches_in, town
 
@@ -79,7 +78,7 @@ class Power(SendTest):
     `--resend`, under its number; then another touch is asked for, which gets the next number."""
 
     # In memory, where there is such a folder: the program syncs for each image.
-    ROOM = "/dev/shm" if os.access("/dev/shm", os.W_OK) else None
+    ROOM = in_memory(200)
     # What is asked for once an image is settled: another touch than the run that lost its power would have asked for.
     OTHER, OTHER_TOLD = "at 1736160000 issue 9", "9,issue,,,Issued,0,0"
 

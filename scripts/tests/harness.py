@@ -82,6 +82,15 @@ def until(holds: Callable[[], object], seconds: float = TIME) -> bool:
     return bool(holds())
 
 
+def in_memory(megabytes: int) -> str | None:
+    """A folder in memory with so much room, if there is one. That of a container may have 64 MB."""
+    with contextlib.suppress(OSError):
+        room = os.statvfs("/dev/shm")
+        if os.access("/dev/shm", os.W_OK) and room.f_bavail * room.f_frsize >= megabytes << 20:
+            return "/dev/shm"
+    return None
+
+
 def begin_in_day(day_of: Callable[[int], object]) -> None:
     """Waits, if a new day begins within a minute: a test that takes less has one day from its beginning to its end.
     `day_of` gives the day of a moment."""

@@ -2,7 +2,6 @@
 are run."""
 import contextlib
 import functools
-import os
 import pathlib
 import shutil
 import subprocess
@@ -77,8 +76,7 @@ print("steps", next(taken) - 1)
 
 def room(prefix: str) -> pathlib.Path:
     """A folder that goes with the tests."""
-    memory = "/dev/shm" if os.access("/dev/shm", os.W_OK) else None
-    folder = pathlib.Path(tempfile.mkdtemp(prefix=prefix, dir=memory))
+    folder = pathlib.Path(tempfile.mkdtemp(prefix=prefix, dir=harness.in_memory(2000)))
     harness.AT_END.callback(shutil.rmtree, folder, ignore_errors=True)
     return folder
 

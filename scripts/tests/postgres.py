@@ -10,7 +10,7 @@ import time
 from collections.abc import Sequence
 from typing import TypeAlias
 
-from harness import free_port
+from harness import free_port, in_memory
 
 # An argument of a program.
 Word: TypeAlias = str | int | pathlib.Path
@@ -46,8 +46,8 @@ class Cluster:
     them takes the machine's power away. Below a folder that is named it is as Debian has it."""
 
     def __init__(self, below: pathlib.Path | None = None, before: Sequence[str] = ()) -> None:
-        memory = "/dev/shm" if os.access("/dev/shm", os.W_OK) else None
-        self.folder = pathlib.Path(tempfile.mkdtemp(prefix="network-postgres-", dir=below or memory))
+        # Its log of changes takes up to 1 GB, and its data as much.
+        self.folder = pathlib.Path(tempfile.mkdtemp(prefix="network-postgres-", dir=below or in_memory(3000)))
         quick = [] if below else ["-c", "fsync=off", "-c", "autovacuum=off"]
         self.before = [*before]
         if os.geteuid() == 0:

@@ -33,7 +33,7 @@ MONDAY = 1736121600
 # Gates and touches of the relay's run, and how many touches a card has.
 GATES, TOUCHES, OF_A_CARD = 4, 10_000, 20
 # A folder in memory, where there is one: 10,000 touches sync a disk 20,000 times.
-FAST = "/dev/shm" if os.access("/dev/shm", os.W_OK) else None
+FAST = harness.in_memory(200)
 
 
 def script(name: str, *words: object, **options: Any) -> subprocess.CompletedProcess[str]:

@@ -57,7 +57,7 @@ STEP = 16
 # What a server notes of so many open slots behind the end.
 NOTES: tuple[list[str], ...] = [], ["note: 1 open slot behind the end"], ["note: 2 open slots behind the end"]
 # A folder in memory, where there is one: the library makes flushes slow.
-ROOM = "/dev/shm" if os.access("/dev/shm", os.W_OK) else None
+ROOM = harness.in_memory(200)
 
 
 class LoadedGate(threading.Thread):
