@@ -1,4 +1,5 @@
 """Tests of bovtrila-network-report and bovtrila-network-audit. For scripts/tests/test_network.py."""
+import contextlib
 import json
 import os
 import pathlib
@@ -8,7 +9,7 @@ import signal
 import subprocess
 import time
 import unittest
-from collections.abc import Iterable
+from collections.abc import Callable, Iterable
 from typing import Any, ClassVar, TypeAlias
 
 import harness
@@ -213,8 +214,7 @@ exec PROGRAM "$@"
         started = [self.start("dask_worker", "--scheduler-file", scheduler, "--host", "127.0.0.1", "--nthreads", 1,
                               nanny, "--no-dashboard", "--name", f"worker-{place}", "--local-directory",
                               self.room / f"worker-{place}", *words) for place in range(workers)]
-        self.wait_for(scheduler)
-        return json.loads(scheduler.read_text())["address"], started
+        return self.found(scheduler, json.loads)["address"], started
 
     def stand_in(self, text: str) -> pathlib.Path:
         """A program of this text in the place of the real one."""
@@ -230,8 +230,7 @@ exec PROGRAM "$@"
             [str(word) for word in (BIN / "bovtrila-network-audit", *self.copies("friday"), *TABLES, "--report", self.report,
                                     "--program", stand_in, "--scheduler", address)],
             stdout=subprocess.PIPE, stderr=subprocess.PIPE, text=True)
-        self.wait_for(self.room / "worker")
-        worker = int((self.room / "worker").read_text())
+        worker = self.found(self.room / "worker", int)
         self.assertIn(worker, [each.pid for each in workers])
         os.kill(worker, signal.SIGKILL)
         out, err = asked.communicate(timeout=TIME)
@@ -245,9 +244,12 @@ exec PROGRAM "$@"
                                  (self.town.servers[name].fronts[0], self.sums(name, 0)))
         self.assertIn("in all: journals 6, sound 5", out)
 
-    def wait_for(self, path: pathlib.Path) -> None:
+    def found(self, path: pathlib.Path, read: Callable[[str], Any]) -> Any:
+        """What is read in a file, once another process has made it and has written all of it."""
         limit = time.monotonic() + TIME
-        while not path.exists():
+        while True:
+            with contextlib.suppress(FileNotFoundError, ValueError):
+                return read(path.read_text())
             self.assertLess(time.monotonic(), limit, (self.room / "log").read_text())
             time.sleep(0.05)
 
