@@ -503,16 +503,20 @@ class Files(Reading):
         server = Server(self.folder, cards=8000, capacity=8000)
         self.addCleanup(server.kill)
         answered: list[bytes] = []
+        seen: list[int] = []
 
         def send() -> None:
             with server.connect() as gate:
-                for frame in frames:
+                for place, frame in enumerate(frames):
+                    # However fast the server is beside what reads the copies, one is read at each thousand touches.
+                    if place % 1000 == 999:
+                        had = len(seen)
+                        harness.until(lambda: len(seen) > had)
                     answered.append(gate.ask(frame))
 
         sender = threading.Thread(target=send)
         sender.start()
         copy = self.folder / "copy"
-        seen: list[int] = []
         while sender.is_alive():
             least = len(answered)
             shutil.copy(server.journal, copy)
