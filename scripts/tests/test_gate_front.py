@@ -93,15 +93,20 @@ class Doors(Behind):
         self.serve(HANDSHAKE="6s", ADDRESS_CONNECTIONS=12)
         with self.steady():
             begun, before = time.monotonic(), self.relay.connections
-            silent = [Line(self.front.port, None, BAD) for _ in range(20)]
+            silent: list[Line] = []
+            for _ in range(20):
+                # One that ends at once may do so before the system reports that it was made.
+                with contextlib.suppress(ConnectionError):
+                    silent.append(Line(self.front.port, None, BAD))
+            unmade = 20 - len(silent)
             for line in silent[:5]:
                 # The beginning of a ClientHello.
                 line.send(bytes.fromhex("16030100a0"))
             # Those above the limit of an address end at once, whichever of HAProxy's threads has them, and no others.
             sockets = [line.socket for line in silent]
-            harness.until(lambda: len(select.select(sockets, [], [], 0)[0]) >= 8)
+            harness.until(lambda: unmade + len(select.select(sockets, [], [], 0)[0]) >= 8)
             time.sleep(0.5)
-            self.assertEqual(len(select.select(sockets, [], [], 0)[0]), 8)
+            self.assertEqual(unmade + len(select.select(sockets, [], [], 0)[0]), 8)
             for line in silent:
                 self.ended(line)
             self.assertTrue(6 <= time.monotonic() - begun < 6 + SOON)
