@@ -358,7 +358,7 @@ class Gates(Behind):
         machine HAProxy ends some of these connections before it has passed on what it holds: then a gate repeats."""
         self.serve(BYTES=700)
         begun, whole = time.monotonic(), 0
-        for _ in range(6):
+        for _ in range(20):
             with self.line() as line:
                 line.send(ENQUIRY * 300)
                 self.assertEqual(line.take()[2], codec.HOLDING)
