@@ -1,0 +1,2 @@
+pub mod DoorLemmas
+mod Examples

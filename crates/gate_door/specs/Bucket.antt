@@ -1,0 +1,29 @@
+-- A token bucket in ticks: it gains one for each tick and each touch a second of its rate, up to
+-- its burst, and a touch takes as many as a second has ticks (this project's choice).
+use Rattle.std.specs.Prelude.{ℕ, ◌+◌, ◌-◌, ◌*◌, Bool, true, nat_le, min, max, Option, Some, None}
+use Rattle.gate_door.specs.declared.rule.Rate.{Rate}
+use Rattle.gate_door.specs.declared.bucket.Bucket.{Bucket}
+use Rattle.gate_door.specs.declared.bucket.TheConstants.{TICKS_PER_SECOND}
+
+-- what is in a full bucket: as much as its burst of touches takes
+abbrev pub burst_of : Option Rate → ℕ
+burst_of None = 0
+burst_of (Some rate) = rate.burst * TICKS_PER_SECOND
+
+-- what is in the bucket at this time: what was in it, and what it gained since, up to its burst
+abbrev pub level_at : Rate → Bucket → ℕ → ℕ
+level_at rate bucket ticks =
+    min (bucket.level + (ticks - bucket.ticks) * rate.touches) (rate.burst * TICKS_PER_SECOND)
+
+-- the bucket has enough for a touch
+abbrev pub has_token : Option Rate → Bucket → ℕ → Bool
+has_token None bucket ticks = true
+has_token (Some rate) bucket ticks = nat_le TICKS_PER_SECOND (level_at rate bucket ticks)
+
+-- the bucket after a touch at this time
+abbrev pub bucket_after : Option Rate → Bucket → ℕ → Bucket
+bucket_after None bucket ticks = bucket
+bucket_after (Some rate) bucket ticks = record {
+  level = level_at rate bucket ticks - TICKS_PER_SECOND;
+  ticks = max bucket.ticks ticks;
+}
