@@ -46,7 +46,7 @@ const TIMEOUT_HELP: &str = "How long a connection or an answer is waited for, fr
 without it 2000";
 
 /// What is said of the option `pause`.
-const PAUSE_HELP: &str = "The pause once each address has failed, from 1 to 30000, without it 200;
+const PAUSE_HELP: &str = "The pause if all addresses fail, from 1 to 30000, without it 200;
 each further one is twice as long, up to 30000";
 
 /// What is said of the station's addresses.
