@@ -110,9 +110,9 @@ class Vectors(unittest.TestCase):
     def test_there_is_each_verdict_fault_state_and_kind(self) -> None:
         pairs = [(vector.request, vector.answer) for station in self.stations for vector in station.vectors]
         self.assertEqual({answer[9] for _, answer in pairs if answer[2] == codec.REPLY}, set(wire.VERDICTS))
-        # No request brings faults 3 and 4 about; the file says so.
+        # No request brings faults 3, 4 and 7 about; the file says so.
         self.assertEqual({answer[3] for _, answer in pairs if answer[2] == codec.FAULT},
-                         set(wire.FAULTS) - {codec.HALTED, codec.MEMORY})
+                         set(wire.FAULTS) - {codec.HALTED, codec.MEMORY, codec.NOT_ALLOWED})
         self.assertEqual({answer[3] for _, answer in pairs if answer[2] == codec.HOLDING}, set(wire.STATES))
         self.assertEqual({asked[2] for asked, _ in pairs if wire.is_request(asked)}, set(wire.REQUESTS))
         self.assertEqual({answer[2] for _, answer in pairs}, set(wire.ANSWERS))

@@ -19,7 +19,7 @@ the same journal. The history must have as many touches as were sent. Each touch
 gate and number is a conflict. Each must get its first reply. If the number of touches is wrong, the script sends
 nothing else, so that the journal stays as it is.
 
-It doesn't check faults 3 and 4, what a server does at a loss of power, or how long an answer takes.
+It doesn't check faults 3, 4 and 7, what a server does at a loss of power, or how long an answer takes.
 
 The last line is 'N passed, M failed'. The status is 1 if something failed.
 
