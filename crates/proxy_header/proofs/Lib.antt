@@ -1,0 +1,6 @@
+mod Examples
+pub mod ListLemmas
+pub mod TlvLemmas
+pub mod NameLemmas
+pub mod FrontLemmas
+pub mod HeaderLemmas
