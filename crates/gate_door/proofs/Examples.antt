@@ -21,11 +21,12 @@ use Rattle.gate_door.specs.declared.reading.Standing.{Standing}
 use Rattle.gate_door.specs.declared.reading.Standing.TheVariants.{Repeat, New}
 use Rattle.gate_door.specs.declared.refusal.Refusal.TheVariants.{Kind, Gate, Ahead, Reserve}
 use Rattle.gate_door.specs.Rule.{Terms, allows_act, allows_gate, allows_kind, is_near, leaves_reserve}
-use Rattle.gate_door.specs.Bucket.{burst_of, has_token, level_at, bucket_after}
+use Rattle.gate_door.specs.Bucket.{burst_of, has_token, level_at, bucket_after, merged_bucket}
 use Rattle.gate_door.specs.Allowed.{IsAllowed, IsBarredFor, IsTooFast, IsUnfitFor}
 use Rattle.gate_door.specs.Door.{DoorState, DoesAtDoor, IsPassed, IsStopped, IsKeptOut, door_state}
 use Rattle.gate_door.specs.Sorted.{IsPaced, IsSortedRun, touches_in}
 use Rattle.gate_door.specs.Laws.{AllowsAll, HasGate}
+use Rattle.gate_door.proofs.BucketLemmas.{merged-is-lower}
 use Rattle.gate_door.proofs.DoorLemmas.{later, repeats, second, kept, sorted, through-all, rate-kept}
 
 -- ticks are milliseconds
@@ -138,6 +139,24 @@ taken : (bucket_after (Some five) (level 9_000) 5_100 ≡ record { level = 8_500
     × (bucket_after (Some five) (level 9_000) 4_000 ≡ level 8_000)
     × (bucket_after None (level 9_000) 5_100 ≡ level 9_000)
 taken = (refl, refl, refl)
+
+-- a connection that sent nothing since 5000 ticks, and one that took all at 6000: the bucket stays empty, whichever of
+-- them ends first; one that was emptied at 5000 has 5000 at 6000, and takes nothing of what the other one has then
+abbrev emptied : Bucket
+emptied = record { level = 0; ticks = 6_000 }
+
+merged : (merged_bucket (Some five) (level 10_000) emptied ≡ emptied)
+    × (merged_bucket (Some five) emptied (level 10_000) ≡ emptied)
+    × (merged_bucket (Some five) (level 0) (record { level = 9_000; ticks = 6_000 })
+    ≡ record { level = 5_000; ticks = 6_000 })
+    × (merged_bucket (Some five) (level 0) (record { level = 4_000; ticks = 6_000 })
+    ≡ record { level = 4_000; ticks = 6_000 })
+    × (merged_bucket None (level 0) emptied ≡ level 0)
+merged = (refl, refl, refl, refl, refl)
+
+-- a second later the merged bucket is as full as the emptier of the two: the other one would be full
+merged_later : level_at five (merged_bucket (Some five) (level 0) emptied) 7_000 ≡ 5_000
+merged_later = merged-is-lower (Some five) (level 0) emptied 7_000 (omega arith)
 
 -- ---- what is allowed, and why something isn't
 

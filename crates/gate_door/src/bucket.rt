@@ -1,6 +1,7 @@
 //! A token bucket: how many touches may come at once, and how fast they may come for long.
 ghost use Rattle.std.specs.Prelude.{◌≡◌, ◌*◌};
 ghost use Rattle.gate_door.specs.Bucket.{bucket_after, burst_of, has_token, level_at};
+ghost use Rattle.gate_door.specs.Bucket.{merged_bucket, IsLowerOf};
 
 use crate::rule::Rate;
 
@@ -52,6 +53,25 @@ impl Bucket {
                 level: self.level_at(rate, ticks).saturating_sub(TICKS_PER_SECOND),
                 ticks: self.ticks.max(ticks),
             },
+            None => *self,
+        }
+    }
+
+    /// One bucket for two that began as one, and of which each was used by a connection of its own.
+    ///
+    /// From the later of their ticks on it is as full as the emptier of the two. So a connection
+    /// that sent nothing doesn't refill what another one took, whichever of them ends first.
+    /// Without a rate it is the first of the two.
+    pub fn merged(&self, rate: Option<Rate>, other: &Bucket) -> Bucket
+        ensures value { result ≡ merged_bucket rate self.now other.now }
+        ensures lower { IsLowerOf rate self.now other.now result }
+    {
+        match rate {
+            Some(rate) => {
+                let ticks = self.ticks.max(other.ticks);
+                let level = self.level_at(rate, ticks).min(other.level_at(rate, ticks));
+                Bucket { level, ticks }
+            }
             None => *self,
         }
     }

@@ -73,6 +73,30 @@ fn a_bucket_gains_a_touch_a_second(rt: HostRuntime) {
     assert_same(&rt, empty.has_token(None, 5_000), true);
 }
 
+/// A bucket with so much in it at so many ticks.
+fn at(level: u64, ticks: u64) -> Bucket {
+    Bucket { level, ticks }
+}
+
+#[test]
+fn a_merged_bucket_is_the_emptier_of_two(rt: HostRuntime) {
+    let rows = [
+        // one connection sent nothing, and the other one two touches at once
+        (at(2_000, 0), at(0, 5_000), at(0, 5_000)),
+        (at(0, 5_000), at(2_000, 0), at(0, 5_000)),
+        // a bucket of long ago is full again
+        (at(0, 0), at(1_000, 60_000), at(1_000, 60_000)),
+        // what it gained since the later of both counts
+        (at(0, 4_500), at(1_000, 5_000), at(500, 5_000)),
+        (at(1_500, 5_000), at(1_500, 5_000), at(1_500, 5_000)),
+    ];
+    for (one, other, want) in rows {
+        assert_same_at(&rt, one.merged(Some(RATE), &other), want, (one, other));
+    }
+    let untouched = at(0, 0);
+    assert_same(&rt, untouched.merged(None, &at(7, 9)), untouched);
+}
+
 #[test]
 fn a_new_touch_is_near_and_leaves_the_reserve(rt: HostRuntime) {
     let Ok(rule) = barrier(rt.alloc()) else {
