@@ -5,6 +5,7 @@ ghost use Rattle.reply_book.specs.Book.{entries_of};
 ghost use Rattle.tap_desk.specs.LogPoints.{logged_at};
 ghost use Rattle.tap_office.specs.Receipt.{IsPoint, Files};
 ghost use Rattle.tap_office.specs.Keeper.{IsHaltedByDisk};
+ghost use Rattle.tap_office.specs.Room.{IsRoomFor};
 ghost use Rattle.tap_office.specs.Close.{AreAtPlaces, Settles, IsEnd};
 
 use crate::board::Board;
@@ -98,6 +99,18 @@ impl<N: Named, D: Disk> Office<N, D> {
         drop(keeper);
         self.board.pass(rt, turn);
         answer
+    }
+
+    /// How many new touches the journal still takes, or `None` if the history already has this very
+    /// touch. It waits for the lock, and answers as `Keeper::room_for` does.
+    ///
+    /// The answer is that of one moment: other seats may commit touches before this caller submits
+    /// its own. No disk call is made, no memory is allocated, and nothing is changed.
+    pub fn room_for<R: Wait>(&self, rt: &R, touch: &Touch) -> Option<u32>
+        ensures { IsRoomFor N.opened touch.now result }
+    {
+        let keeper = self.keeper.lock(rt);
+        keeper.room_for(touch)
     }
 
     /// What the system answered at the first call of the journal's disk that it refused with an

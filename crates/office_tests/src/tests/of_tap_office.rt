@@ -7,6 +7,7 @@ mod memory;
 mod migration;
 mod openings;
 mod revisions;
+mod room;
 mod rounds;
 mod steps;
 mod threads;
