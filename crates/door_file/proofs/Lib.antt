@@ -1,0 +1,13 @@
+pub mod TreeLemmas
+pub mod FirstLemmas
+pub mod NoneLemmas
+pub mod PlaceLemmas
+pub mod RulesLemmas
+pub mod UnknownLemmas
+pub mod NumberLemmas
+pub mod GatesLemmas
+pub mod KindsLemmas
+pub mod RuleLemmas
+pub mod DoorLemmas
+pub mod BytesLemmas
+mod Examples
