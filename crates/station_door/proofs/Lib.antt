@@ -1,0 +1,3 @@
+mod EntranceLemmas
+mod PlacesLemmas
+mod Examples

@@ -1,0 +1,4 @@
+pub mod Places
+pub mod Entrances
+pub mod Entering
+pub mod Station
