@@ -5,3 +5,4 @@ pub mod ReportLemmas
 pub mod LeftLemmas
 mod DaysLemmas
 mod Examples
+mod BehindLemmas

@@ -115,6 +115,12 @@ ClerkGoesOn-same before after is = record {
       (ap (λ (k : ClerkState). k.desk.points) is);
 }
 
+pub ClerkGoesOn-within : (m n : ℕ) (a b : ClerkState) → m ≤ n → ClerkGoesOn m a b → ClerkGoesOn n a b
+ClerkGoesOn-within m n a b within on = record {
+  seat = GoesOn-within m n a.seat b.seat within on.seat;
+  desk = DeskGoesOn-within m n a.desk b.desk within on.desk;
+}
+
 ClerkGoesOn-more : (m n : ℕ) (a b c : ClerkState) → ClerkGoesOn m a b → ClerkGoesOn n b c → ClerkGoesOn (m + n) a c
 ClerkGoesOn-more m n a b c first second = record {
   seat = GoesOn-more m n a.seat b.seat c.seat first.seat second.seat;

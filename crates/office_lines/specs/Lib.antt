@@ -6,3 +6,5 @@ pub mod Post
 pub mod Days
 pub mod Ahead
 pub mod Looks
+pub mod Standing
+pub mod Behind

@@ -3,6 +3,7 @@
 ghost use Rattle.std.specs.Prelude.{ℕ, Option, None, is_some, if◌then◌else◌};
 ghost use Rattle.office_lines.specs.Post.{HasGivenMore};
 
+use crate::connection::Connection;
 use crate::notice::Lines;
 use libc::net;
 use libc::types::pollfd;
@@ -24,7 +25,7 @@ pub trait GateLine {
     type W: Write + Drop + Send;
 
     /// The next connection. It waits for a gate. `None` ends the line.
-    fn connect(&mut self) -> Option<(Self::R, Self::W)>
+    fn connect(&mut self) -> Option<Connection<Self::R, Self::W>>
         ensures { HasGivenMore (given self.old) (given self.new)
             (if is_some result then 1 else 0) };
 }

@@ -5,7 +5,10 @@
 ghost use Rattle.std.specs.Prelude.{◌≡◌, ◌↔◌, IsTrue};
 ghost use Rattle.office_lines.specs.Notice.{IsNearlyFull, notice_of};
 
+use crate::reason::Reason;
 use jiff::civil::Date;
+use proxy_header::Name;
+use station_door::ShutOut;
 use std::fmt;
 use std::fmt::Display;
 use std::sync::Wait;
@@ -95,6 +98,13 @@ pub trait Watch {
     /// A touch was refused. Where the journal's disk has failed, the system said this of it, if
     /// anything.
     fn refused(&self, fault: SubmitFault, said: Option<SystemError>);
+
+    /// A request of this gate number, 0 of an enquiry, was kept out by the rule at this place of
+    /// the server's door.
+    fn kept_out(&self, place: usize, reason: Reason, gate: u16);
+
+    /// A connection of this name, if it has one, wasn't let in by the server's door.
+    fn shut_out<W: Wait>(&self, rt: &W, shut: ShutOut, name: Option<Name>);
 
     /// It is time to look around, as it is about once a second.
     fn look<W: Wait>(&self, rt: &W);

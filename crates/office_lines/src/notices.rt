@@ -3,11 +3,15 @@
 use crate::ahead::Ahead;
 use crate::begun::Begun;
 use crate::days::GateDay;
+use crate::kept_out::KeptOut;
 use crate::looks::{Looks, turn_of};
 use crate::notice::{Lines, Notice, Standing, SystemSaid, Watch, is_nearly_full, notice_of};
 use crate::pace::Pace;
+use crate::reason::Reason;
 use jiff::civil::Date;
 use money_time::Zone;
+use proxy_header::Name;
+use station_door::{ShutOut, StationDoor};
 use std::alloc::{AllocError, Global};
 use std::sync::atomic::{AtomicBool, AtomicU32, AtomicU64, Ordering};
 use std::sync::{Mutex, Wait};
@@ -33,6 +37,8 @@ pub struct Watched<'a> {
     pub report: Option<Duration>,
     /// The zone by which fare days are. Without it no gate is told to be ahead.
     pub zone: Option<Zone>,
+    /// The door that requests have to pass, where there is one.
+    pub door: Option<&'a StationDoor>,
 }
 
 /// A watch that tells each kind of notice once, on standard error. That all lines are taken is told
@@ -57,6 +63,8 @@ pub struct Notices<'a, R, L> {
     ahead: Mutex<Ahead>,
     /// What was found at the looks around.
     around: Mutex<Around>,
+    /// What the door has kept out, where there is one.
+    kept_out: Option<KeptOut<'a>>,
     /// Which kinds were told.
     halted: AtomicBool,
     full: AtomicBool,
@@ -74,7 +82,7 @@ struct Around {
 
 impl<'a, R: Clock + Eprint, L: Lines> Notices<'a, R, L> {
     /// A watch that has told nothing, over lines that can begin now. It takes the memory for what
-    /// is known of each gate.
+    /// is known of each gate, and of each rule of a door.
     pub fn new(
         alloc: Global,
         rt: &'a R,
@@ -82,6 +90,10 @@ impl<'a, R: Clock + Eprint, L: Lines> Notices<'a, R, L> {
         watched: Watched<'a>,
     ) -> Result<Notices<'a, R, L>, AllocError> {
         let ahead = Ahead::new(alloc)?;
+        let kept_out = match watched.door {
+            Some(door) => Some(KeptOut::new(alloc, door)?),
+            None => None,
+        };
         Ok(Notices {
             rt,
             lines,
@@ -95,6 +107,7 @@ impl<'a, R: Clock + Eprint, L: Lines> Notices<'a, R, L> {
                 looks: Looks::new(),
                 pace: Pace::new(rt.monotonic().ok(), watched.report),
             }),
+            kept_out,
             halted: AtomicBool::new(false),
             full: AtomicBool::new(false),
             nearly_full: AtomicBool::new(false),
@@ -179,6 +192,13 @@ impl<'a, R: Clock + Eprint, L: Lines> Notices<'a, R, L> {
         turn_of(before, after, self.begun.count_begun())
     }
 
+    /// Tells what the door has kept out, where that is to be told.
+    fn look_at_door<W: Wait>(&self, rt: &W) {
+        if let (Some(kept_out), Ok(now)) = (&self.kept_out, self.rt.monotonic()) {
+            kept_out.tell(rt, now, self.rt);
+        }
+    }
+
     /// Whether it is to be told how the server stands.
     fn is_report_due<W: Wait>(&self, rt: &W) -> bool {
         let Ok(now) = self.rt.monotonic() else {
@@ -234,8 +254,21 @@ impl<R: Clock + Eprint, L: Lines> Watch for Notices<'_, R, L> {
         }
     }
 
+    fn kept_out(&self, place: usize, reason: Reason, gate: u16) {
+        if let Some(kept_out) = &self.kept_out {
+            kept_out.count(place, reason, gate);
+        }
+    }
+
+    fn shut_out<W: Wait>(&self, rt: &W, shut: ShutOut, name: Option<Name>) {
+        if let Some(kept_out) = &self.kept_out {
+            kept_out.shut_out(rt, shut, name);
+        }
+    }
+
     fn look<W: Wait>(&self, rt: &W) {
         self.tell_any(self.look_at_gates(rt));
+        self.look_at_door(rt);
         if self.is_report_due(rt) {
             self.print(Notice::Standing(self.standing()));
         }

@@ -1,28 +1,22 @@
 //! The posts of a server: each serves the connections of one line, one after the other, at a seat
 //! of the office.
 
-ghost use Rattle.std.specs.Prelude.{◌≡◌, ◌<◌, ◌≤◌, ◌*◌, ℕ, length, slice_index_or};
+ghost use Rattle.std.specs.Prelude.{◌<◌, ℕ, length, slice_index_or};
 ghost use Rattle.std.specs.Thread.{IsSync};
-ghost use Rattle.gate_session.specs.Session.{HasCounted};
-ghost use Rattle.gate_session.specs.declared.session.TheConstants.{PIECE_SIZE};
-ghost use Rattle.office_lines.specs.Clerk.{GoesOn, DeskGoesOn};
 ghost use Rattle.office_lines.specs.Post.{HasServed};
 
-use crate::clerk::OfficeClerk;
 use crate::gate_line::GateLine;
 use crate::notice::Watch;
+use crate::sessions::serve_connection;
 use crate::tally::Tally;
-use gate_session::{Served, serve};
+use station_door::StationDoor;
 use std::alloc::Global;
-use std::io::{Read, Write};
 use std::sync::Wait;
 use std::thread;
 use std::thread::Threads;
+use std::time::Clock;
 use tap_disk::Disk;
 use tap_office::{Desk, Named, Office, Seat};
-
-/// How many reads a session makes at most.
-const TURNS: u32 = 1_000_000;
 
 /// A line, with the seat and the desk from which its gates are answered, and what came of it so
 /// far.
@@ -47,6 +41,8 @@ pub struct Service<'a, N: Named, D: Disk, T> {
     pub watch: &'a T,
     /// How many connections each post serves at most.
     pub connections: u64,
+    /// The door that requests have to pass before the office, where the server has one.
+    pub door: Option<&'a StationDoor>,
 }
 
 /// Serves all posts, each in a thread of its own where one can be made, and the others one after
@@ -59,7 +55,7 @@ pub fn serve_all<
     N: Named + Send + Sync,
     D: Disk + Drop + Send,
     T: Watch + Sync,
-    R: Threads + Wait + Sync,
+    R: Threads + Wait + Clock + Sync,
 >(rt: &R, alloc: Global, service: &Service<'_, N, D, T>, posts: &mut [Post<L, N>])
     ensures { (place : ℕ) (other : _) → place < length posts.old
         → HasServed service.now.connections
@@ -84,7 +80,7 @@ pub fn serve_all<
 }
 
 /// Serves the connections of a post, one after the other.
-fn serve_post<L: GateLine, N: Named, D: Disk, T: Watch, R: Wait>(
+fn serve_post<L: GateLine, N: Named, D: Disk, T: Watch, R: Wait + Clock>(
     rt: &R,
     alloc: Global,
     service: &Service<'_, N, D, T>,
@@ -104,53 +100,11 @@ fn serve_post<L: GateLine, N: Named, D: Disk, T: Watch, R: Wait>(
         if !tally.has_room() {
             return;
         }
-        let Some((mut reader, mut writer)) = line.connect() else {
+        let Some(mut connection) = line.connect() else {
             return;
         };
         service.watch.connected();
-        let served = serve_connection(rt, alloc, service, seat, desk, &mut reader, &mut writer);
+        let served = serve_connection(rt, alloc, service, seat, desk, &mut connection);
         tally.count(&served);
     }
-}
-
-/// Serves one connection, at a seat and a desk of the office.
-fn serve_connection<I: Read, O: Write, N: Named, D: Disk, T: Watch, R: Wait>(
-    rt: &R,
-    alloc: Global,
-    service: &Service<'_, N, D, T>,
-    seat: &mut Seat<N>,
-    desk: &mut Desk<N>,
-    reader: &mut I,
-    writer: &mut O,
-) -> Served
-    ensures seat { GoesOn result.requests seat.old seat.new }
-    ensures desk { DeskGoesOn result.requests desk.old desk.new }
-    ensures counts { HasCounted result.end result.requests result.answers }
-    ensures few { result.requests ≤ PIECE_SIZE * TURNS }
-{
-    let mut clerk = OfficeClerk {
-        office: &service.office,
-        watch: service.watch,
-        seat,
-        desk,
-    };
-    serve_clerk(rt, alloc, &mut clerk, reader, writer)
-}
-
-/// Serves one connection by its clerk, who keeps the same seat and desk.
-fn serve_clerk<I: Read, O: Write, N: Named, D: Disk, T: Watch, R: Wait>(
-    rt: &R,
-    alloc: Global,
-    clerk: &mut OfficeClerk<'_, N, D, T>,
-    reader: &mut I,
-    writer: &mut O,
-) -> Served
-    ensures same_seat { clerk.new.seat.ghost_name ≡ clerk.old.seat.ghost_name }
-    ensures same_desk { clerk.new.desk.ghost_name ≡ clerk.old.desk.ghost_name }
-    ensures seat { GoesOn result.requests clerk.old.seat.now clerk.new.seat.now }
-    ensures desk { DeskGoesOn result.requests clerk.old.desk.now clerk.new.desk.now }
-    ensures counts { HasCounted result.end result.requests result.answers }
-    ensures few { result.requests ≤ PIECE_SIZE * TURNS }
-{
-    serve(rt, alloc, reader, writer, clerk, TURNS)
 }

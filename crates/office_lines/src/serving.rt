@@ -17,6 +17,7 @@ use std::io::Write;
 use std::sync::Wait;
 use std::thread;
 use std::thread::Threads;
+use std::time::Clock;
 use tap_disk::Disk;
 use tap_office::{Named, Office, Seat};
 
@@ -57,7 +58,7 @@ pub fn serve_office<
     D: Disk + Drop + Send,
     T: Watch + Sync,
     W: Write,
-    R: AllocGlobal + Threads + Wait + Sync + Eprint,
+    R: AllocGlobal + Threads + Wait + Clock + Sync + Eprint,
 >(
     rt: &R,
     service: Service<'_, N, D, T>,
@@ -106,7 +107,7 @@ fn serve_watched<
     N: Named + Send + Sync,
     D: Disk + Drop + Send,
     T: Watch + Sync,
-    R: Threads + Wait + Sync,
+    R: Threads + Wait + Clock + Sync,
 >(rt: &R, alloc: Global, ready: Ready<'_, L, N, D, T>) -> Result<Ended, ServeFault>
     requires no_seats { ready.seats.items ≡ [] }
     requires no_tallies { ready.tallies.items ≡ [] }
@@ -137,7 +138,7 @@ fn serve_ready<
     N: Named + Send + Sync,
     D: Disk + Drop + Send,
     T: Watch + Sync,
-    R: Threads + Wait + Sync,
+    R: Threads + Wait + Clock + Sync,
 >(rt: &R, alloc: Global, ready: Ready<'_, L, N, D, T>, over: &Over) -> Result<Ended, ServeFault>
     requires no_seats { ready.seats.items ≡ [] }
     requires no_tallies { ready.tallies.items ≡ [] }

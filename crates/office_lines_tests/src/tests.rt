@@ -1,3 +1,4 @@
+mod doors;
 mod notices;
 mod report;
 mod scripts;

@@ -4,7 +4,9 @@ use super::assert_same;
 use jiff::civil::Date;
 use libc::EIO;
 use money_time::Zone;
-use office_lines::{Lines, Notice, Notices, Standing, SystemSaid, Watch, Watched};
+use office_lines::{Lines, Notice, Notices, Reason, Standing, SystemSaid, Watch, Watched};
+use proxy_header::Name;
+use station_door::ShutOut;
 use std::alloc::AllocError;
 use std::fmt::Display;
 use std::io;
@@ -18,9 +20,9 @@ use tap_office::SubmitFault;
 
 /// Counts the lines that are told, and has a clock that stands still until a test moves it.
 #[derive(Drop)]
-struct Teller {
-    told: AtomicU64,
-    seconds: AtomicU64,
+pub(super) struct Teller {
+    pub(super) told: AtomicU64,
+    pub(super) seconds: AtomicU64,
 }
 
 impl Clock for Teller {
@@ -46,7 +48,7 @@ impl Eprint for Teller {
 
 /// Counts how often lines are ended, and has as many lines wait as a test says.
 #[derive(Drop)]
-struct Ends {
+pub(super) struct Ends {
     ended: AtomicU64,
     waiting: AtomicU32,
     are_waited_for: AtomicBool,
@@ -81,6 +83,10 @@ impl Watch for Unwatched {
 
     fn refused(&self, _fault: SubmitFault, _said: Option<SystemError>) {}
 
+    fn kept_out(&self, _place: usize, _reason: Reason, _gate: u16) {}
+
+    fn shut_out<W: Wait>(&self, _rt: &W, _shut: ShutOut, _name: Option<Name>) {}
+
     fn look<W: Wait>(&self, _rt: &W) {}
 }
 
@@ -103,11 +109,15 @@ impl Watch for Counting {
 
     fn refused(&self, _fault: SubmitFault, _said: Option<SystemError>) {}
 
+    fn kept_out(&self, _place: usize, _reason: Reason, _gate: u16) {}
+
+    fn shut_out<W: Wait>(&self, _rt: &W, _shut: ShutOut, _name: Option<Name>) {}
+
     fn look<W: Wait>(&self, _rt: &W) {}
 }
 
 /// Who has told nothing, at the clock's start.
-fn new_teller() -> Teller {
+pub(super) fn new_teller() -> Teller {
     Teller {
         told: AtomicU64::new(0),
         seconds: AtomicU64::new(0),
@@ -115,7 +125,7 @@ fn new_teller() -> Teller {
 }
 
 /// Lines that weren't ended, and that no gate waits for.
-fn new_ends() -> Ends {
+pub(super) fn new_ends() -> Ends {
     Ends {
         ended: AtomicU64::new(0),
         waiting: AtomicU32::new(0),
@@ -125,7 +135,7 @@ fn new_ends() -> Ends {
 
 /// What is watched over: so many lines that end where the disk fails, a journal for ten touches
 /// with none, no reports, and no zone.
-fn watched(asked: u32) -> Watched<'static> {
+pub(super) fn watched(asked: u32) -> Watched<'static> {
     Watched {
         journal: "journal",
         ends: true,
@@ -134,6 +144,7 @@ fn watched(asked: u32) -> Watched<'static> {
         opened: 0,
         report: None,
         zone: None,
+        door: None,
     }
 }
 
@@ -213,7 +224,7 @@ fn lines_that_have_not_begun_are_told_once_they_had_time(rt: HostRuntime) -> Res
 }
 
 /// Behind one look of a watch, which threads may share, so many lines were told.
-fn assert_told_at_look<R: Wait + Abort, L: Watch + Sync>(
+pub(super) fn assert_told_at_look<R: Wait + Abort, L: Watch + Sync>(
     rt: &R,
     watch: &L,
     told: &AtomicU64,

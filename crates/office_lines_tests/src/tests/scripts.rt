@@ -1,6 +1,6 @@
 //! Gates that send what a script says, and listen for what it wants.
 
-use office_lines::GateLine;
+use office_lines::{Connection, GateLine};
 use std::io::{ErrorKind, Read, Write};
 use std::sync::atomic::{AtomicU64, Ordering};
 use std::time::{Clock, Duration};
@@ -42,6 +42,10 @@ pub enum Frame {
     BadFrame,
     /// The beginning of a frame.
     Cut,
+    /// What a door doesn't let through: gate 7's issue, gate 1's top-up, and an enquiry.
+    IssueNotAllowed,
+    FirstTopUpNotAllowed,
+    AskNotAllowed,
 }
 
 impl Frame {
@@ -114,6 +118,9 @@ impl Frame {
                 b"\x00\x11\x04\x00\x07\x00\x00\x00\x01\x00\x00\x00\x01\x67\x7b\x8b\x28\x00\x00",
             Frame::BadFrame => b"\x00\x08\xff\x01\x00\x00\x00\x00\x00\x00",
             Frame::Cut => b"\x00\x0f\x04\x00\x07",
+            Frame::IssueNotAllowed => b"\x00\x08\xff\x07\x00\x07\x00\x00\x00\x01",
+            Frame::FirstTopUpNotAllowed => b"\x00\x08\xff\x07\x00\x01\x00\x00\x00\x02",
+            Frame::AskNotAllowed => b"\x00\x08\xff\x07\x00\x00\x00\x00\x00\x00",
         }
     }
 }
@@ -205,7 +212,7 @@ impl<'a, R: Clock + Sync> GateLine for ScriptLine<'a, R> {
 
     type W = Listener<'a>;
 
-    fn connect(&mut self) -> Option<(Sender<'a, R>, Listener<'a>)> {
+    fn connect(&mut self) -> Option<Connection<Sender<'a, R>, Listener<'a>>> {
         let scripts = self.scripts;
         let mut place: usize = 0;
         for script in scripts {
@@ -219,12 +226,12 @@ impl<'a, R: Clock + Sync> GateLine for ScriptLine<'a, R> {
     }
 }
 
-/// Both ends of a connection.
+/// Both ends of a connection without a name.
 fn connection<'a, R>(
     clock: &'a R,
     script: &'a Script,
     heard: &'a Heard,
-) -> (Sender<'a, R>, Listener<'a>) {
+) -> Connection<Sender<'a, R>, Listener<'a>> {
     let sender = Sender {
         clock,
         script,
@@ -236,7 +243,11 @@ fn connection<'a, R>(
         took: 0,
         heard,
     };
-    (sender, listener)
+    Connection {
+        reader: sender,
+        writer: listener,
+        name: None,
+    }
 }
 
 /// Whether so many bytes are heard on all lines, at last.

@@ -8,6 +8,7 @@ use super::notices::Unwatched;
 use super::scripts::{Frame, Heard, Script, ScriptLine, whole};
 use super::*;
 use office_lines::{GateLine, Post, Service, Tally, new_post, seats_of, serve_all, tallies_of};
+use station_door::StationDoor;
 use std::alloc::AllocError;
 use std::marker::Brand;
 use std::sync::Wait;
@@ -58,11 +59,12 @@ fn close_posts<L: Drop, N: Named, R: AllocGlobal + Wait>(
 fn serve_posts<
     L: GateLine + Drop + Send,
     N: Named + Send + Sync,
-    R: AllocGlobal + Threads + Wait + Sync,
+    R: AllocGlobal + Threads + Wait + Clock + Sync,
 >(
     rt: &R,
     office: Office<N, MemoryDisk>,
     posts: Vec<Post<L, N>>,
+    door: Option<&StationDoor>,
 ) -> Result<(Vec<Tally>, u32), Fail> {
     let alloc = rt.alloc();
     let mut posts = posts;
@@ -70,6 +72,7 @@ fn serve_posts<
         office,
         watch: &Unwatched,
         connections: 10,
+        door,
     };
     serve_all(rt, alloc, &service, posts.as_mut_slice());
     let tallies = Vec::with_capacity(alloc, posts.len())?;
@@ -84,6 +87,7 @@ fn serve_lines<'a, N: Named + Send + Sync, R: AllocGlobal + Clock + Threads + Wa
     opening: Opening<MemoryDisk>,
     scripts: &'a [Script],
     heard: &'a Heard,
+    door: Option<&StationDoor>,
 ) -> Result<(Vec<Tally>, u32), Fail>
     requires { IsNameOf N.opened N.name N.parts N.commit_log N.table (opened_of opening) }
 {
@@ -92,7 +96,7 @@ fn serve_lines<'a, N: Named + Send + Sync, R: AllocGlobal + Clock + Threads + Wa
         .ok()
         .ok_or("no office was made")?;
     let posts = posts_of(rt, scripts, heard, seats, desks)?;
-    serve_posts(rt, office, posts)
+    serve_posts(rt, office, posts, door)
 }
 
 /// Serves these connections over so many lines, from a new journal with room for so many touches.
@@ -102,12 +106,23 @@ fn served<R: AllocGlobal + Clock + Threads + Wait + Sync + Abort>(
     capacity: u32,
     scripts: &[Script],
 ) -> Result<(Vec<Tally>, u32), Fail> {
+    served_at(rt, lines, capacity, scripts, None)
+}
+
+/// The same at a door.
+pub(super) fn served_at<R: AllocGlobal + Clock + Threads + Wait + Sync + Abort>(
+    rt: &R,
+    lines: u16,
+    capacity: u32,
+    scripts: &[Script],
+    door: Option<&StationDoor>,
+) -> Result<(Vec<Tally>, u32), Fail> {
     let heard = Heard {
         bytes: AtomicU64::new(0),
         wrong: AtomicU64::new(0),
     };
     let opening = new_opening(rt.alloc(), capacity, lines).expect(rt, "the disk wasn't opened");
-    let told = serve_lines::<Brand, R>(rt, opening, scripts, &heard)?;
+    let told = serve_lines::<Brand, R>(rt, opening, scripts, &heard, door)?;
     assert_same(rt, heard.wrong.load(Ordering::Relaxed), 0);
     Ok(told)
 }

@@ -1,6 +1,6 @@
 use Rattle.std.proofs.Common.{Some}
 use Rattle.tap_office.specs.Opening.{opened_of}
-use Rattle.office_lines_tests.proofs.tests.serve.served.Given as goal
+use Rattle.office_lines_tests.proofs.tests.serve.served_at.Given as goal
 
 abbrev pub ghosts-serve_lines-N-Named : goal.ghosts-serve_lines-N-Named
 ghosts-serve_lines-N-Named g a = record { opened = opened_of a.opening }

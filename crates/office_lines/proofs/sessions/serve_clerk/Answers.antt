@@ -1,7 +1,7 @@
 use Rattle.office_lines.specs.Clerk.{clerk_at}
-use Rattle.office_lines.specs.declared.post.TheConstants.{TURNS}
+use Rattle.office_lines.specs.declared.sessions.TheConstants.{TURNS}
 use Rattle.office_lines.proofs.PostLemmas.{given-goes_on, session-goes_on, run-keeps, requests_few}
-use Rattle.office_lines.proofs.post.serve_clerk.Goals as goal
+use Rattle.office_lines.proofs.sessions.serve_clerk.Goals as goal
 
 -- each answer keeps the seat, and so does the session
 pub returns-clause-same_seat : goal.returns-clause-same_seat
