@@ -4,7 +4,6 @@ use Rattle.std.specs.Prelude.{◌≡◌, ◌≤◌, ◌≤ℤ◌, ℤ, IfSome, l
 use Rattle.program_options.specs.Numbers.{IsWithin}
 use Rattle.command_line.specs.declared.arguments.Arguments.{Arguments}
 use Rattle.command_line.specs.declared.arguments.Arguments.TheVariants as asked
-use Rattle.command_line.specs.declared.arguments.Serve.{Serve}
 use Rattle.command_line.specs.declared.arguments.TheConstants.{CARDS_LIMIT, CAPACITY_LIMIT}
 use Rattle.command_line.specs.declared.arguments.TheConstants.{LINES_LIMIT}
 use Rattle.command_line.specs.declared.arguments.TheConstants.{CONNECTIONS_LIMIT, IDLE_LIMIT}
@@ -18,6 +17,7 @@ use Rattle.command_line.specs.declared.history.History.{History}
 use Rattle.command_line.specs.declared.seal.Seal.{Seal}
 use Rattle.command_line.specs.declared.seal.Sealed.{Sealed}
 use Rattle.command_line.specs.declared.seal.TheConstants.{SEAL_SIZE}
+use Rattle.command_line.specs.declared.serve.Serve.{Serve}
 use Rattle.command_line.specs.declared.statement.Statement.{Statement}
 
 -- a station has 1 to 100,000 cards and a journal of 1 to 1,000,000 touches, and a server 1 to 64
@@ -75,6 +75,7 @@ abbrev pub IsCheckAllowed : Check → Type 0
 IsCheckAllowed (checks.Report table strict) = Unit {0}
 IsCheckAllowed (checks.Fare table journey) = IsJourneyAllowed journey
 IsCheckAllowed (checks.Changes before after) = Unit {0}
+IsCheckAllowed (checks.Door door) = Unit {0}
 
 -- so it is of each command
 abbrev pub IsAllowed : Arguments → Type 0

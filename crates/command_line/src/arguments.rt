@@ -12,6 +12,7 @@ use crate::commands::{command, command_named, wrong_number};
 use crate::history::{History, history_asked};
 use crate::number::{number_asked, short_in};
 use crate::seal::{Seal, seal_asked};
+use crate::serve::{Serve, serve_asked};
 use crate::statement::{Statement, statement_asked};
 use clap::error::ErrorKind;
 use clap::{ArgMatches, Command, Error};
@@ -44,7 +45,7 @@ pub enum Arguments<'a> {
         cards: u32,
         revisions: Vec<&'a str>,
     },
-    /// Check a fare table.
+    /// Check a fare table or a door.
     Check(Check<'a>),
     /// Serve gates.
     Serve(Serve<'a>),
@@ -58,37 +59,6 @@ pub enum Arguments<'a> {
     Balances(Balances<'a>),
     /// Print a card's statement, from a journal's file alone.
     Statement(Statement<'a>),
-}
-
-/// What a server is asked for.
-#[derive(Debug, PartialEq, Eq, Drop)]
-pub struct Serve<'a> {
-    /// The path of the first fare table.
-    pub table: &'a str,
-    /// The paths of further fare tables, in the order in which they were written.
-    pub revisions: Vec<&'a str>,
-    /// The path of the journal.
-    pub journal: &'a str,
-    /// How many cards there are.
-    pub cards: u32,
-    /// How many touches a journal has room for that is made now.
-    pub capacity: u32,
-    /// The address that gates connect to.
-    pub listen: &'a str,
-    /// How many gates are served at once.
-    pub lines: u32,
-    /// How many connections each line serves, one after the other, where it is ever done.
-    pub connections: Option<u32>,
-    /// After how many seconds without a byte a connection is ended, where it is ended so.
-    pub idle: Option<u32>,
-    /// After how many seconds it is told each time how the server stands, where it is told.
-    pub report: Option<u32>,
-    /// Whether it goes on when the journal's disk has failed.
-    pub stay_halted: bool,
-    /// Whether it makes no journal, and refuses one with open slots behind its end.
-    pub strict: bool,
-    /// Whether it waits for a journal that another server has.
-    pub standby: bool,
 }
 
 /// What the carrying over of a journal is asked for.
@@ -243,7 +213,7 @@ fn asked_by<'a>(
     match name {
         "replay" => replay_asked(inner, revisions),
         "check" => check_of(inner),
-        "serve" => serve_asked(inner, revisions),
+        "serve" => serve_of(inner, revisions),
         "migrate" => migrate_asked(inner),
         "verify" => verify_asked(inner, revisions),
         "history" => history_of(inner, revisions),
@@ -285,36 +255,10 @@ fn replay_asked<'a>(matches: &ArgMatches<'a>, revisions: Vec<&'a str>) -> Option
 }
 
 /// The server that the matches of its command ask for.
-fn serve_asked<'a>(matches: &ArgMatches<'a>, revisions: Vec<&'a str>) -> Option<Arguments<'a>>
+fn serve_of<'a>(matches: &ArgMatches<'a>, revisions: Vec<&'a str>) -> Option<Arguments<'a>>
     ensures { IfSome result IsAllowed }
 {
-    let table = matches.get_str("table")?;
-    let journal = matches.get_str("journal")?;
-    let listen = matches.get_str("listen")?;
-    let cards = number_asked(matches, "cards", CARDS_LIMIT)?;
-    let capacity = number_asked(matches, "capacity", CAPACITY_LIMIT)?;
-    let lines = number_asked(matches, "lines", LINES_LIMIT)?;
-    let connections = number_given(matches, "connections", 1, CONNECTIONS_LIMIT)?;
-    let idle = number_given(matches, "idle", 1, IDLE_LIMIT)?;
-    let report = number_given(matches, "report", 1, REPORT_LIMIT)?;
-    let stay_halted = matches.get_flag("stay-halted");
-    let strict = matches.get_flag("strict");
-    let standby = matches.get_flag("standby");
-    Some(Arguments::Serve(Serve {
-        table,
-        revisions,
-        journal,
-        cards,
-        capacity,
-        listen,
-        lines,
-        connections,
-        idle,
-        report,
-        stay_halted,
-        strict,
-        standby,
-    }))
+    Some(Arguments::Serve(serve_asked(matches, revisions)?))
 }
 
 /// The carrying over of a journal that the matches of its command ask for.

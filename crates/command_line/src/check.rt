@@ -1,4 +1,4 @@
-//! The check of a fare table that the words of a command line ask for.
+//! The check of a fare table or a door that the arguments of a command line ask for.
 
 ghost use Rattle.std.specs.Prelude.{◌≤◌, IfSome};
 ghost use Rattle.command_line.specs.Arguments.{IsJourneyAllowed, IsCheckAllowed};
@@ -10,7 +10,7 @@ use money_time::day_of;
 /// How many seconds a day has.
 const DAY_SECONDS: i64 = 86_400;
 
-/// What the check of a fare table is asked for.
+/// What a check is asked for.
 #[derive(Clone, Copy, Debug, PartialEq, Eq)]
 pub enum Check<'a> {
     /// Whether the table in the file of this path is valid, and where `strict` that there is no
@@ -20,6 +20,8 @@ pub enum Check<'a> {
     Fare { table: &'a str, journey: Journey },
     /// What the table in one file changes of that in another, and whether it may revise it.
     Changes { old: &'a str, new: &'a str },
+    /// Whether the door in the file of this path is valid, and which rules it has.
+    Door { door: &'a str },
 }
 
 /// A journey of which the fare is asked.
@@ -35,6 +37,16 @@ pub struct Journey {
 
 /// The check that the matches of its command ask for. `None` where the journey is none.
 pub(crate) fn check_asked<'a>(matches: &ArgMatches<'a>) -> Option<Check<'a>>
+    ensures { IfSome result IsCheckAllowed }
+{
+    match matches.get_str("door") {
+        Some(door) => Some(Check::Door { door }),
+        None => tables_check_asked(matches),
+    }
+}
+
+/// The check of one table or of two that the matches of its command ask for.
+fn tables_check_asked<'a>(matches: &ArgMatches<'a>) -> Option<Check<'a>>
     ensures { IfSome result IsCheckAllowed }
 {
     match matches.get_strs("against") {

@@ -70,8 +70,8 @@ enum Takes {
 enum Rule {
     /// Always.
     Required,
-    /// Where the parameter of this name doesn't stand.
-    Unless(&'static str),
+    /// Where none of the parameters of these names stands.
+    Unless(&'static [&'static str]),
     /// Never.
     Optional,
     /// Never, and it may not stand beside the parameters of these names.
@@ -171,7 +171,7 @@ fn arg_of<'a>(alloc: Global, parameter: &Parameter) -> Result<Arg<'a>, AllocErro
     let arg = taking(alloc, parameter).help(parameter.help);
     match parameter.rule {
         Rule::Required => Ok(arg.required(true)),
-        Rule::Unless(other) => arg.required_unless_present(other),
+        Rule::Unless(others) => arg.required_unless_present_any(others),
         Rule::Optional => Ok(arg),
         Rule::Without(others) => arg.conflicts_with_all(others),
         Rule::With(other) => arg.requires_arg(other),

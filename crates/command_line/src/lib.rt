@@ -10,11 +10,13 @@ mod commands;
 mod history;
 mod number;
 mod seal;
+mod serve;
 mod statement;
 
-pub use arguments::{Arguments, Migrate, Serve, Verify, arguments_of, refuse_command, words_of};
+pub use arguments::{Arguments, Migrate, Verify, arguments_of, refuse_command, words_of};
 pub use balances::Balances;
 pub use check::{Check, Journey};
 pub use history::{History, HistoryFormat};
 pub use seal::{Seal, Sealed};
+pub use serve::Serve;
 pub use statement::{Statement, StatementFormat};

@@ -1,6 +1,6 @@
-//! The files that a command's words name, read to their ends.
+//! The files that a command's words name, read to their ends or up to a limit.
 
-ghost use Rattle.std.specs.Prelude.{ℕ, List, IfOk, IfErr};
+ghost use Rattle.std.specs.Prelude.{◌≡◌, ℕ, List, IfOk, IfErr, IfSome, take};
 ghost use Rattle.std.specs.Io.KnownBytes.{Consumes, IsAtEnd};
 ghost use Rattle.console.specs.Files.{IsAnyReading, IsFileFault};
 
@@ -9,6 +9,7 @@ use crate::fault::TrialFault;
 use crate::refusal::{open_refusal, read_refusal};
 use std::alloc::Global;
 use std::fs::{File, OpenFile};
+use std::io;
 use std::io::Read;
 use std::rt::Files;
 use text_io::{RunFault, read_all};
@@ -28,6 +29,20 @@ pub trait WholeFiles {
     /// it, or want of memory.
     fn bytes_in(&self, alloc: Global, path: &str) -> Result<Vec<u8>, TrialFault>
         ensures ok { IfOk result (λ bytes. gave self.now path.now bytes.items) }
+        ensures fault { IfErr result IsFileFault };
+}
+
+/// Files that are read up to a limit, by their paths.
+///
+/// As for [`WholeFiles`], a contract names the bytes that it read by `gave_first`.
+pub trait LimitedFiles {
+    /// The file of this path was read up to this number of bytes, and gave these.
+    ghost gave_first: { Self → List ℕ → ℕ → List ℕ → Type 0 };
+
+    /// The first bytes of the file of this path: `most` of them, or all if it has no more. No
+    /// further byte is read. A fault is `File`, with the reason, or want of memory.
+    fn first_bytes_in(&self, alloc: Global, path: &str, most: u64) -> Result<Vec<u8>, TrialFault>
+        ensures ok { IfOk result (λ bytes. gave_first self.now path.now most bytes.items) }
         ensures fault { IfErr result IsFileFault };
 }
 
@@ -53,12 +68,28 @@ impl<'a, R: Files> WholeFiles for SystemFiles<'a, R> {
                 let mut file = file;
                 bytes_of(alloc, path, &mut file)
             }
-            Err(error) => {
-                let refusal = open_refusal(self.rt, path, &error);
-                Err(TrialFault::File(Detail::of(alloc, path, &refusal)))
-            }
+            Err(error) => Err(unopened(self.rt, alloc, path, &error)),
         }
     }
+}
+
+impl<'a, R: Files> LimitedFiles for SystemFiles<'a, R> {
+    ghost gave_first = { λ _ path _ bytes. IsAnyReading path bytes };
+
+    fn first_bytes_in(&self, alloc: Global, path: &str, most: u64) -> Result<Vec<u8>, TrialFault> {
+        match File::open(self.rt, path) {
+            Ok(file) => first_bytes_of(alloc, path, file, most),
+            Err(error) => Err(unopened(self.rt, alloc, path, &error)),
+        }
+    }
+}
+
+/// The fault of a file that isn't opened, with the reason of this error.
+fn unopened<R: Files>(rt: &R, alloc: Global, path: &str, error: &io::Error) -> TrialFault
+    ensures { IsFileFault result }
+{
+    let refusal = open_refusal(rt, path, error);
+    TrialFault::File(Detail::of(alloc, path, &refusal))
 }
 
 /// What an open file holds, read to its end. A fault names its path.
@@ -76,6 +107,28 @@ fn bytes_of<F: Read + OpenFile>(
         Ok(bytes) => Ok(bytes),
         Err(RunFault::Read) => {
             let refusal = read_refusal(file);
+            Err(TrialFault::File(Detail::of(alloc, path, &refusal)))
+        }
+        Err(_) => Err(TrialFault::Run(RunFault::Memory)),
+    }
+}
+
+/// The first bytes of an open file, at most so many. A fault names its path.
+fn first_bytes_of<F: Read + OpenFile + Drop>(
+    alloc: Global,
+    path: &str,
+    file: F,
+    most: u64,
+) -> Result<Vec<u8>, TrialFault>
+    ensures read { IfOk result (λ bytes.
+        IfSome (F.remaining file) (λ all. bytes.items ≡ take most all)) }
+    ensures fault { IfErr result IsFileFault }
+{
+    let mut limited = file.take(most);
+    match read_all(alloc, &mut limited, TURNS) {
+        Ok(bytes) => Ok(bytes),
+        Err(RunFault::Read) => {
+            let refusal = read_refusal(limited.get_ref());
             Err(TrialFault::File(Detail::of(alloc, path, &refusal)))
         }
         Err(_) => Err(TrialFault::Run(RunFault::Memory)),

@@ -10,6 +10,6 @@ mod refusal;
 
 pub use detail::Detail;
 pub use fault::{TrialFault, tell_fault};
-pub use files::{SystemFiles, TURNS, WholeFiles};
+pub use files::{LimitedFiles, SystemFiles, TURNS, WholeFiles};
 pub use output::Output;
 pub use refusal::{Refusal, kind_refusal, open_refusal};

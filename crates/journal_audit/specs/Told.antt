@@ -7,6 +7,7 @@ use Rattle.text_io.specs.declared.fault.RunFault.TheVariants.{Write}
 use Rattle.console.specs.Told.{told_trial}
 use Rattle.console.specs.declared.fault.TrialFault.TheVariants.{Run}
 use Rattle.tap_journal.specs.Texts.{printed_cause, printed_fault as printed_journal_fault}
+use Rattle.door_file.specs.Texts.{printed_fault as printed_door_fault}
 use Rattle.journal_audit.specs.declared.commands.fault.CommandFault.{CommandFault}
 use Rattle.journal_audit.specs.declared.commands.fault.CommandFault.TheVariants.{Trial, Journal}
 use Rattle.journal_audit.specs.declared.commands.fault.CommandFault.TheVariants.{Migrate}
@@ -15,7 +16,7 @@ use Rattle.journal_audit.specs.declared.commands.fault.CommandFault.TheVariants.
 use Rattle.journal_audit.specs.declared.commands.fault.CommandFault.TheVariants.{Place, Behind}
 use Rattle.journal_audit.specs.declared.commands.fault.CommandFault.TheVariants.{Balance}
 use Rattle.journal_audit.specs.declared.commands.fault.CommandFault.TheVariants.{Unissued}
-use Rattle.journal_audit.specs.declared.commands.fault.CommandFault.TheVariants.{Listen}
+use Rattle.journal_audit.specs.declared.commands.fault.CommandFault.TheVariants.{Door, Listen}
 use Rattle.journal_audit.specs.declared.commands.fault.CommandFault.TheVariants.{SeatMissing}
 use Rattle.journal_audit.specs.declared.commands.fault.CommandFault.TheVariants.{Mismatch}
 
@@ -33,6 +34,7 @@ told_fault (Unissued card) = Some (codes "fault card " ++ (decimal card ++ codes
 told_fault (Place touches) = Some (codes "fault place " ++ decimal touches)
 told_fault (Behind slots _) = Some (codes "fault behind " ++ decimal slots)
 told_fault (Balance card) = Some (codes "fault balance " ++ decimal card)
+told_fault (Door fault _) = Some (printed_door_fault fault)
 told_fault (Listen _) = Some (codes "fault listen")
 told_fault (Output _) = told_trial (Run Write)
 told_fault SeatMissing = Some (codes "fault close 1 SeatMissing")

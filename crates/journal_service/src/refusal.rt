@@ -2,10 +2,13 @@
 
 ghost use Rattle.std.specs.Prelude.{◌≡◌};
 ghost use Rattle.console.specs.declared.detail.Detail.{Detail};
+ghost use Rattle.door_check.specs.Doors.{told_door};
+ghost use Rattle.journal_audit.specs.Told.{told_fault};
 ghost use Rattle.console.specs.declared.fault.TrialFault.TheVariants.{File as FileFault};
 
 use crate::standby::refused_journal;
 use console::{Detail, Refusal, kind_refusal, open_refusal};
+use door_check::NoDoor;
 use journal_audit::CommandFault;
 use std::alloc::Global;
 use std::fs::{File, OpenOptions, TryLockError};
@@ -22,6 +25,16 @@ pub fn listen_fault(alloc: Global, address: &str, error: &io::Error) -> CommandF
         None => Refusal::NoAddress,
     };
     CommandFault::Listen(Detail::of(alloc, address, &refusal))
+}
+
+/// The fault of a door that isn't had.
+pub fn door_fault(fault: NoDoor) -> CommandFault
+    ensures { told_fault result ≡ told_door fault }
+{
+    match fault {
+        NoDoor::Trial(fault) => CommandFault::Trial(fault),
+        NoDoor::Refused(fault, detail) => CommandFault::Door(fault, detail),
+    }
 }
 
 /// The fault of a journal's file that isn't had.

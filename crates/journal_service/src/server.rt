@@ -9,11 +9,13 @@ ghost use Rattle.std.specs.Prelude.{◌≡◌, [], true, IfOk};
 ghost use Rattle.journal_service.specs.Serve.{serve_fault};
 
 use crate::journal::{device_fault, journal_disk};
-use crate::refusal::listen_fault;
+use crate::proxy::{Headers, check_proxy};
+use crate::refusal::{door_fault, listen_fault};
 use crate::station_line::station_posts;
 use crate::system::System;
 use command_line::Serve;
-use console::{Detail, SystemFiles};
+use console::{Detail, LimitedFiles, SystemFiles};
+use door_check::door_of;
 use fare_schedule::Schedule;
 use journal_audit::{CommandFault, OpenedBy, explained, look_behind, tell_behind};
 use money_time::Zone;
@@ -21,6 +23,7 @@ use office_lines::{
     GateLine, Lines, Notices, Post, ServeFault, Service, TcpLines, Watch, Watched, serve_office,
 };
 use reply_book::NameHashing;
+use station_door::StationDoor;
 use std::alloc::Global;
 use std::fs::File;
 use std::io;
@@ -48,6 +51,15 @@ struct OpenOffice<N: Named, D: Disk> {
     desks: Vec<Desk<N>>,
 }
 
+/// What a server has beside its journal.
+#[derive(Drop)]
+struct Setting {
+    /// The zone by which fare days are, where it can be had.
+    zone: Option<Zone>,
+    /// The door that requests have to pass, where one is asked for.
+    door: Option<StationDoor>,
+}
+
 /// How an office is served, and what is told of it.
 #[derive(Clone, Copy)]
 struct Terms<'a> {
@@ -62,8 +74,8 @@ struct Terms<'a> {
 }
 
 /// Opens the office of a journal, serves gates until all lines are done, closes the office and
-/// writes the report. The tables are looked at before the journal, which is made where its file is
-/// empty, and open slots behind its end are told of.
+/// writes the report. The tables and the door are looked at before the journal, which is made where
+/// its file is empty, and open slots behind its end are told of.
 ///
 /// A server that is strict makes no journal, and serves none with more than two open slots behind
 /// its end. One on standby waits for a journal that another server has.
@@ -72,13 +84,30 @@ pub fn serve_gates<
 >(rt: &R, hashing: NameHashing, asked: &Serve<'_>) -> Result<ExitCode, CommandFault>
     requires { IsServeAllowed asked.now }
 {
+    check_proxy(rt.alloc(), asked.listen, asked.proxy)?;
     let files = SystemFiles::new(rt);
     let first = first_table(rt.alloc(), &files, Some(asked.table))?;
     let digest = first.digest();
     let zone = Zone::read(first.zone_text()).ok();
     let schedule = schedule_of(rt.alloc(), &files, first, asked.revisions.as_slice())?;
+    let door = door_asked(rt.alloc(), &files, asked.door)?;
     let disk = journal_disk(rt, &digest, asked)?;
-    serve_journal(rt, hashing, disk, schedule, zone, asked)
+    serve_journal(rt, hashing, disk, schedule, &Setting { zone, door }, asked)
+}
+
+/// The door in the file of this path, where one is asked for.
+fn door_asked<F: LimitedFiles>(
+    alloc: Global,
+    files: &F,
+    path: Option<&str>,
+) -> Result<Option<StationDoor>, CommandFault> {
+    let Some(path) = path else {
+        return Ok(None);
+    };
+    match door_of(alloc, files, path) {
+        Ok(door) => Ok(Some(StationDoor::new(alloc, door)?)),
+        Err(fault) => Err(door_fault(fault)),
+    }
 }
 
 /// Opens the office of the journal on a disk, by a schedule without a revision, and serves it.
@@ -87,14 +116,14 @@ fn serve_journal<R: System + Files<File = File> + Net<Listener = TcpListener, St
     hashing: NameHashing,
     disk: FileDisk,
     schedule: Schedule,
-    zone: Option<Zone>,
+    setting: &Setting,
     asked: &Serve<'_>,
 ) -> Result<ExitCode, CommandFault>
     requires unrevised { revisions_of schedule ≡ [] }
     requires allowed { IsServeAllowed asked.now }
 {
     match read_opening(rt, hashing, disk, schedule, asked) {
-        Ok(opening) => serve_opening::<Brand, FileDisk, R>(rt, opening, zone, asked),
+        Ok(opening) => serve_opening::<Brand, FileDisk, R>(rt, opening, setting, asked),
         Err(fault) => Err(fault),
     }
 }
@@ -146,7 +175,7 @@ fn serve_opening<
 >(
     rt: &R,
     opening: Opening<D>,
-    zone: Option<Zone>,
+    setting: &Setting,
     asked: &Serve<'_>,
 ) -> Result<ExitCode, CommandFault>
     requires name { IsNameOf N.opened N.name N.parts N.commit_log N.table (opened_of opening) }
@@ -165,7 +194,7 @@ fn serve_opening<
         desks,
     };
     tell_behind(rt, behind);
-    let watched = watched_by(asked, capacity, open.office.opened(), zone);
+    let watched = watched_by(asked, capacity, open.office.opened(), setting);
     let listener = match TcpListener::bind(rt, asked.listen) {
         Ok(listener) => listener,
         Err(error) => return Err(listen_fault(alloc, asked.listen, &error)),
@@ -192,7 +221,8 @@ fn serve_listener<N: Named + Send + Sync, D: Disk + Drop + Send, R: System>(
         connections: connections_of(asked),
         idle: idle_of(asked),
     };
-    match serve_over(rt, open, &lines, terms, &mut output) {
+    let headers = Headers::new(rt, asked.proxy);
+    match serve_over(rt, open, &lines, &headers, terms, &mut output) {
         Ok(halted) => Ok(halted),
         Err(fault) => Err(fault_of(fault)),
     }
@@ -204,6 +234,7 @@ fn serve_over<'a, N: Named + Send + Sync, D: Disk + Drop + Send, R: System, W: W
     rt: &'a R,
     open: OpenOffice<N, D>,
     lines: &'a TcpLines<'a>,
+    headers: &'a Headers<'a, R>,
     terms: Terms<'_>,
     output: &mut W,
 ) -> Result<bool, ServeFault> {
@@ -213,7 +244,7 @@ fn serve_over<'a, N: Named + Send + Sync, D: Disk + Drop + Send, R: System, W: W
         desks,
     } = open;
     let line = TcpLine::new(rt, lines, &lines.short, &lines.ended, terms.idle);
-    let posts = station_posts(rt.alloc(), &line, seats, desks)?;
+    let posts = station_posts(rt.alloc(), &line, headers, seats, desks)?;
     serve_told(rt, office, posts, lines, terms, output)
 }
 
@@ -257,6 +288,7 @@ fn serve_posts<
         office,
         watch,
         connections: terms.connections,
+        door: terms.watched.door,
     };
     serve_office(rt, service, posts, terms.listening, output)
 }
@@ -288,7 +320,7 @@ fn watched_by<'a>(
     asked: &'a Serve<'_>,
     capacity: u32,
     opened: u32,
-    zone: Option<Zone>,
+    setting: &'a Setting,
 ) -> Watched<'a> {
     Watched {
         journal: asked.journal,
@@ -299,7 +331,8 @@ fn watched_by<'a>(
         report: asked
             .report
             .map(|seconds| Duration::from_secs(u64::from(seconds))),
-        zone,
+        zone: setting.zone,
+        door: setting.door.as_ref(),
     }
 }
 

@@ -4,7 +4,8 @@ ghost use Rattle.std.specs.Prelude.{IfOk};
 ghost use Rattle.std.specs.List.{All};
 ghost use Rattle.office_lines.specs.Tally.{IsEmpty};
 
-use office_lines::{GateLine, Post, TcpLines, new_post};
+use crate::proxy::{Headers, connection_of};
+use office_lines::{Connection, GateLine, Post, TcpLines, new_post};
 use std::alloc::{AllocError, Global};
 use std::net::TcpStream;
 use std::time::Clock;
@@ -16,12 +17,17 @@ use tcp_line::{GateReader, GateWriter, TcpLine};
 pub(crate) struct StationLine<'a, R> {
     /// The line.
     line: TcpLine<'a, R, TcpLines<'a>>,
+    /// What is read before a connection's requests.
+    headers: &'a Headers<'a, R>,
 }
 
 impl<'a, R: Clock + Eprint> StationLine<'a, R> {
     /// This line.
-    pub(crate) fn over(line: TcpLine<'a, R, TcpLines<'a>>) -> StationLine<'a, R> {
-        StationLine { line }
+    pub(crate) fn over(
+        line: TcpLine<'a, R, TcpLines<'a>>,
+        headers: &'a Headers<'a, R>,
+    ) -> StationLine<'a, R> {
+        StationLine { line, headers }
     }
 }
 
@@ -30,8 +36,18 @@ impl<'a, R: Clock + Eprint + Sync> GateLine for StationLine<'a, R> {
 
     type W = GateWriter<'a, R, TcpStream>;
 
-    fn connect(&mut self) -> Option<(GateReader<'a, R, TcpStream>, GateWriter<'a, R, TcpStream>)> {
-        self.line.next()
+    /// The next connection, behind its header where one is read. One without a whole header is
+    /// closed, and the next one is waited for.
+    fn connect(
+        &mut self,
+    ) -> Option<Connection<GateReader<'a, R, TcpStream>, GateWriter<'a, R, TcpStream>>> {
+        for _ in 0..u64::MAX {
+            let (reader, writer) = self.line.next()?;
+            if let Some(connection) = connection_of(self.headers, reader, writer) {
+                return Some(connection);
+            }
+        }
+        None
     }
 }
 
@@ -39,6 +55,7 @@ impl<'a, R: Clock + Eprint + Sync> GateLine for StationLine<'a, R> {
 pub(crate) fn station_posts<'a, N: Named, R: Clock + Eprint>(
     alloc: Global,
     line: &TcpLine<'a, R, TcpLines<'a>>,
+    headers: &'a Headers<'a, R>,
     seats: Vec<Seat<N>>,
     desks: Vec<Desk<N>>,
 ) -> Result<Vec<Post<StationLine<'a, R>, N>>, AllocError>
@@ -46,7 +63,8 @@ pub(crate) fn station_posts<'a, N: Named, R: Clock + Eprint>(
 {
     let mut posts = Vec::with_capacity(alloc, seats.len())?;
     for (seat, desk) in seats.into_iter().zip(desks) {
-        posts.push(new_post(StationLine::over(line.another()), seat, desk))?;
+        let line = StationLine::over(line.another(), headers);
+        posts.push(new_post(line, seat, desk))?;
     }
     Ok(posts)
 }

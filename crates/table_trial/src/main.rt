@@ -1,9 +1,11 @@
-//! The program that fare tables are tried by: `replay` and `check` of `tap_server`, without a
-//! journal and without a server. It reads its command line, calls what is proved, and prints.
+//! The program that fare tables and doors are tried by: `replay` and `check` of `tap_server`,
+//! without a journal and without a server. It reads its command line, calls what is proved, and
+//! prints.
 #![tactic(auto)]
 
 use command_line::{Arguments, Check, arguments_of, refuse_command, words_of};
 use console::{SystemFiles, TrialFault, tell_fault};
+use door_check::check_door;
 use line_replay::replay_input;
 use reply_book::NameHashing;
 use std::io;
@@ -52,6 +54,7 @@ fn run<R: AllocGlobal + Env + Files + Input + Print + Eprint + RandomSource>(
         Arguments::Check(Check::Changes { old, new }) => {
             tell_changes(rt.alloc(), &files, old, new, &mut output)
         }
+        Arguments::Check(Check::Door { door }) => check_door(rt, &files, door, &mut output),
         _ => Err(TrialFault::Line(refuse_command(rt.alloc())?)),
     }
 }

@@ -5,6 +5,7 @@
 
 use command_line::{Arguments, Check, arguments_of, words_of};
 use console::{Output, SystemFiles};
+use door_check::check_door;
 use journal_audit::{
     CommandFault, ended_by, explained_balances, explained_history, explained_verify,
     tell_command_fault,
@@ -84,6 +85,7 @@ fn done<
         Arguments::Check(Check::Changes { old, new }) => {
             Ok(tell_changes(rt.alloc(), &files, old, new, output)?)
         }
+        Arguments::Check(Check::Door { door }) => Ok(check_door(rt, &files, door, output)?),
         Arguments::Serve(asked) => {
             let _held = standard_files(rt);
             serve_gates(rt, hashing, &asked)

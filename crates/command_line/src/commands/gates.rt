@@ -20,11 +20,13 @@ Statuses: 0 all lines are answered, 1 a fault (on standard error),
 2 a wrong command line";
 
 /// What `check` does.
-const CHECK_ABOUT: &str = "Checks a fare table, and prints what it contains or its first fault";
+const CHECK_ABOUT: &str =
+    "Checks a fare table or a door, and prints what it contains or its first fault";
 
-/// What a check is asked for: of one table, with at most one of two options, or of two.
+/// What a check is asked for: of one table, with at most one of two options, of two, or of a door.
 const CHECK_USAGE: &str = "bovtrila check --table <FILE> [--strict | --fare <FROM> <TO> <MOMENT>]
-       bovtrila check --against <OLD> <NEW>";
+       bovtrila check --against <OLD> <NEW>
+       bovtrila check --door <FILE>";
 
 /// How `check` is called, and how it ends.
 const CHECK_EXAMPLE: &str = "Example:
@@ -36,7 +38,10 @@ Example, the fare of a journey from station 1 to station 3 that starts at this m
 Example, the changes in a new table, and whether fares may be revised to it:
   bovtrila check --against fares.toml fares-2026.toml
 
-Statuses: 0 the table is valid, or with --against fares may be revised to the new one;
+Example, the rules of a door:
+  bovtrila check --door door.toml
+
+Statuses: 0 the file is valid, or with --against fares may be revised to the new table;
 1 it isn't valid, fares may not be revised, there was a fault, or with --strict a note;
 2 a wrong command line";
 
@@ -64,6 +69,10 @@ Each later start has --strict, so that the server makes no new journal by mistak
 arguments are further tables, and all that the journal names are needed:
   bovtrila serve --table fares.toml --journal station.journal --cards 1000 \\
     --capacity 1000000 --listen 127.0.0.1:4014 --lines 8 --strict fares-2026.toml
+
+Example, with a door, and HAProxy on the same machine, which verifies the gates' certificates:
+  bovtrila serve --table fares.toml --journal station.journal --cards 1000 \\
+    --capacity 1000000 --listen 127.0.0.1:4014 --lines 8 --strict --door door.toml --proxy
 
 Statuses: 0 all lines have ended and the journal is closed, 1 a fault (on standard error) or a
 failed disk, 2 a wrong command line";
@@ -95,7 +104,7 @@ pub(super) const CHECK: Described = Described {
     about: CHECK_ABOUT,
     usage: Some(CHECK_USAGE),
     example: CHECK_EXAMPLE,
-    parameters: &[CHECKED, STRICT_TABLE, FARE, AGAINST],
+    parameters: &[CHECKED, STRICT_TABLE, FARE, AGAINST, CHECKED_DOOR],
 };
 
 /// The command `serve`.
@@ -117,6 +126,8 @@ pub(super) const SERVE: Described = Described {
         STAY_HALTED,
         STRICT_JOURNAL,
         STANDBY,
+        DOOR,
+        PROXY,
         REVISIONS,
     ],
 };
@@ -134,7 +145,7 @@ pub(super) const MIGRATE: Described = Described {
 const CHECKED: Parameter = Parameter {
     name: "table",
     takes: Takes::Text("FILE"),
-    rule: Rule::Unless("against"),
+    rule: Rule::Unless(&["against", "door"]),
     help: "The file of the fare table, in TOML",
 };
 
@@ -173,6 +184,15 @@ const AGAINST: Parameter = Parameter {
     rule: Rule::Without(&["table", "strict", "fare"]),
     help: "Prints the changes from the table in the first file to that in
 the second, and whether fares may be revised to it;
+instead of --table, and with no other option",
+};
+
+/// The file of the door that is checked.
+const CHECKED_DOOR: Parameter = Parameter {
+    name: "door",
+    takes: Takes::Text("FILE"),
+    rule: Rule::Without(&["table", "strict", "fare", "against"]),
+    help: "The file of a door, in TOML: prints a line for each of its rules;
 instead of --table, and with no other option",
 };
 
@@ -297,6 +317,25 @@ const STANDBY: Parameter = Parameter {
     rule: Rule::Optional,
     help: "While another server or run has locked the journal, waits for its
 end, and then serves; without it such a lock is a fault",
+};
+
+/// The file of a server's door.
+const DOOR: Parameter = Parameter {
+    name: "door",
+    takes: Takes::Text("FILE"),
+    rule: Rule::Optional,
+    help: "The file of the door, in TOML: rules for which requests each connection
+may send; by default each connection may send every request",
+};
+
+/// Whether a proxy names the certificate of each connection.
+const PROXY: Parameter = Parameter {
+    name: "proxy",
+    takes: Takes::Flag,
+    rule: Rule::Optional,
+    help: "Reads HAProxy's header (PROXY protocol, version 2) at the start of each
+connection, which names the gate's certificate; only if --listen has a
+loopback address; by default connections have no header and no name",
 };
 
 /// The fare table by which an old journal was made.

@@ -1,5 +1,6 @@
 //! What command lines ask for. Each is written as one text, with a space between its words.
 mod journals;
+mod serve;
 mod usage;
 mod verify;
 
@@ -80,8 +81,8 @@ const HELPS: [(&str, &str, &str); 7] = [
     (
         "check",
         "--table <FILE> [--strict | --fare <FROM> <TO> <MOMENT>]\n       \
-         bovtrila check --against <OLD> <NEW>\n",
-        "  bovtrila check --against fares.toml fares-2026.toml\n",
+         bovtrila check --against <OLD> <NEW>\n       bovtrila check --door <FILE>\n",
+        "  bovtrila check --door door.toml\n",
     ),
     (
         "serve",
@@ -181,6 +182,10 @@ fn a_table_is_named_by_its_file(rt: HostRuntime) {
             "Check(Changes { old: \"old.toml\", new: \"new.toml\" })",
         ),
         (
+            "check --door door.toml",
+            "Check(Door { door: \"door.toml\" })",
+        ),
+        (
             "replay --cards 10 --table fares.toml",
             "Replay { table: Some(\"fares.toml\"), cards: 10, revisions: [] }",
         ),
@@ -218,6 +223,13 @@ fn any_other_command_line_is_refused(rt: HostRuntime) {
         "check --against old.toml new.toml --table fares.toml",
         "check --against old.toml new.toml --strict",
         "check --against old.toml new.toml --fare 1 3 2025-01-07T08:30:00Z",
+        "check --door",
+        "check --door door.toml --table fares.toml",
+        "check --door door.toml --strict",
+        "check --door door.toml --fare 1 3 2025-01-07T08:30:00Z",
+        "check --door door.toml --against old.toml new.toml",
+        "check --door door.toml --door other.toml",
+        "check --strict",
     ];
     assert_refused(&rt, alloc, &refused);
     assert_same(&rt, status_of(alloc, &["bovtrila"]), Some(2));
@@ -264,94 +276,11 @@ fn further_tables_are_the_last_words(rt: HostRuntime) {
             "Serve(Serve { table: \"fares.toml\", revisions: [\"b.toml\", \"a.toml\"], \
              journal: \"station.journal\", cards: 10, capacity: 100, listen: \"127.0.0.1:0\", \
              lines: 64, connections: Some(2), idle: None, report: None, stay_halted: false, \
-             strict: false, standby: false })",
+             strict: false, standby: false, \
+             door: None, proxy: false })",
         ),
     ];
     assert_asked(&rt, rt.alloc(), &rows);
-}
-
-#[test]
-fn a_line_is_never_done_where_no_number_of_connections_is_named(rt: HostRuntime) {
-    let rows = [
-        (
-            "serve --table a.toml --journal b --cards 10 --capacity 100 --listen c --lines 64",
-            "Serve(Serve { table: \"a.toml\", revisions: [], journal: \"b\", cards: 10, \
-             capacity: 100, listen: \"c\", lines: 64, connections: None, idle: None, \
-             report: None, stay_halted: false, strict: false, standby: false })",
-        ),
-        (
-            "serve --table a.toml --journal b --cards 10 --capacity 100 --listen c --lines 64 \
-             --connections 1",
-            "Serve(Serve { table: \"a.toml\", revisions: [], journal: \"b\", cards: 10, \
-             capacity: 100, listen: \"c\", lines: 64, connections: Some(1), idle: None, \
-             report: None, stay_halted: false, strict: false, standby: false })",
-        ),
-        (
-            "serve --table a.toml --journal b --cards 10 --capacity 100 --listen c --lines 64 \
-             --connections 1000000",
-            "Serve(Serve { table: \"a.toml\", revisions: [], journal: \"b\", cards: 10, \
-             capacity: 100, listen: \"c\", lines: 64, connections: Some(1000000), idle: None, \
-             report: None, stay_halted: false, strict: false, standby: false })",
-        ),
-    ];
-    assert_asked(&rt, rt.alloc(), &rows);
-    let refused = [
-        "serve --table a --journal b --cards 10 --capacity 9 --listen c --lines 64 --connections 0",
-        "serve --table a --journal b --cards 10 --capacity 9 --listen c --lines 64 \
-         --connections 1000001",
-        "serve --table a --journal b --cards 10 --capacity 9 --listen c --lines 64 --connections x",
-        "serve --table a --journal b --cards 10 --capacity 9 --listen c --lines 64 \
-         --connections +5",
-    ];
-    assert_refused(&rt, rt.alloc(), &refused);
-}
-
-#[test]
-fn a_server_needs_its_tables_its_journal_and_its_numbers(rt: HostRuntime) {
-    let rows = [
-        (
-            "serve --table fares.toml --journal station.journal --cards 10 --capacity 100 \
-             --listen 127.0.0.1:0 --lines 64 --connections 2",
-            "Serve(Serve { table: \"fares.toml\", revisions: [], journal: \"station.journal\", \
-             cards: 10, capacity: 100, listen: \"127.0.0.1:0\", lines: 64, connections: Some(2), \
-             idle: None, report: None, stay_halted: false, strict: false, standby: false })",
-        ),
-        (
-            "serve --table fares.toml --journal station.journal --cards 10 --capacity 100 \
-             --listen 127.0.0.1:0 --lines 64 --connections 2 --idle 600 --report 3600 \
-             --stay-halted",
-            "Serve(Serve { table: \"fares.toml\", revisions: [], journal: \"station.journal\", \
-             cards: 10, capacity: 100, listen: \"127.0.0.1:0\", lines: 64, connections: Some(2), \
-             idle: Some(600), report: Some(3600), stay_halted: true, strict: false, \
-             standby: false })",
-        ),
-        (
-            "serve --table a.toml --journal b --cards 10 --capacity 100 --listen c --lines 64 \
-             --strict d.toml",
-            "Serve(Serve { table: \"a.toml\", revisions: [\"d.toml\"], journal: \"b\", cards: 10, \
-             capacity: 100, listen: \"c\", lines: 64, connections: None, idle: None, \
-             report: None, stay_halted: false, strict: true, standby: false })",
-        ),
-        (
-            "serve --standby --table a.toml --journal b --cards 10 --capacity 100 --listen c \
-             --lines 64",
-            "Serve(Serve { table: \"a.toml\", revisions: [], journal: \"b\", cards: 10, \
-             capacity: 100, listen: \"c\", lines: 64, connections: None, idle: None, \
-             report: None, stay_halted: false, strict: false, standby: true })",
-        ),
-    ];
-    assert_asked(&rt, rt.alloc(), &rows);
-    let refused = [
-        "serve --table a --journal b --cards 10 --capacity 9 --listen c --lines 0",
-        "serve --table a --journal b --cards 10 --capacity 9 --listen c --lines 65",
-        "serve --table a --journal b --cards 10 --capacity 9 --listen c --lines +2",
-        "serve --table a --journal b --cards 10 --capacity 9 --listen c --lines -1",
-        "serve --table a --journal b --cards 10 --capacity 9 --listen c --lines x",
-        "serve --table a --journal b --cards 10 --capacity 9 --listen c --lines 2 --report 0",
-        "serve --table a --journal b --cards 10 --capacity 9 --listen c --lines 2 --report 1000001",
-        "serve --table a --journal b --cards 10 --capacity 9 --listen c",
-    ];
-    assert_refused(&rt, rt.alloc(), &refused);
 }
 
 #[test]

@@ -13,6 +13,7 @@ ghost use Rattle.journal_audit.specs.Told.{told_fault};
 use crate::fault::{AuditFault, GateFault, HeaderFault, SealFault};
 use clap::Error as LineError;
 use console::{Detail, TrialFault, tell_fault};
+use door_file::DoorFault;
 use std::alloc::AllocError;
 use std::process::ExitCode;
 use std::{fmt, io};
@@ -47,6 +48,8 @@ pub enum CommandFault {
     /// What was paid in on the card of this number, less what it was charged, isn't its balance. No
     /// run shows it.
     Balance(u32),
+    /// The file of a door has this fault.
+    Door(DoorFault, Detail),
     /// The address can't be listened on.
     Listen(Detail),
     /// A standard stream didn't take what was written. It is the run's fault, with what the system
@@ -76,6 +79,7 @@ impl fmt::Display for CommandFault {
             CommandFault::Place(touches) => write!(f, "fault place {touches}"),
             CommandFault::Behind(slots, _) => write!(f, "fault behind {slots}"),
             CommandFault::Balance(card) => write!(f, "fault balance {card}"),
+            CommandFault::Door(fault, _) => write!(f, "{fault}"),
             CommandFault::Listen(_) => f.write_str("fault listen"),
             CommandFault::Output(_) => f.write_str("fault run 3 Write"),
             CommandFault::SeatMissing => f.write_str("fault close 1 SeatMissing"),
@@ -92,6 +96,7 @@ impl CommandFault {
             CommandFault::Journal(_, detail) => detail.line(),
             CommandFault::Migrate(_, detail) => detail.line(),
             CommandFault::Behind(_, detail) => detail.line(),
+            CommandFault::Door(_, detail) => detail.line(),
             CommandFault::Listen(detail) => detail.line(),
             CommandFault::Output(detail) => detail.line(),
             _ => None,

@@ -1,6 +1,6 @@
 //! The files of the system, and what is said of one that isn't had.
 use super::{assert_same_at, told};
-use console::{Detail, Refusal, SystemFiles, WholeFiles, open_refusal};
+use console::{Detail, LimitedFiles, Refusal, SystemFiles, WholeFiles, open_refusal};
 use std::io;
 use std::test::Fail;
 
@@ -21,6 +21,27 @@ fn a_file_of_the_system_is_read_to_its_end(rt: HostRuntime) -> Result<(), Fail> 
         let fault = files.bytes_in(rt.alloc(), path).err().ok_or("a file")?;
         assert_same_at(&rt, told(rt.alloc(), &fault)?.as_str(), wanted, path);
     }
+    Ok(())
+}
+
+// The device has no end, so no more than the limit may be read of it.
+#[test]
+fn a_file_of_the_system_is_read_up_to_a_limit(rt: HostRuntime) -> Result<(), Fail> {
+    let files = SystemFiles::new(&rt);
+    for (path, most, count) in [
+        ("/dev/zero", 3, 3),
+        ("/dev/zero", 2_000, 2_000),
+        ("/dev/null", 3, 0),
+    ] {
+        let bytes = files.first_bytes_in(rt.alloc(), path, most)?;
+        assert_same_at(&rt, bytes.len(), count, path);
+    }
+    let fault = files
+        .first_bytes_in(rt.alloc(), "/dev", 3)
+        .err()
+        .ok_or("a file")?;
+    let wanted = "fault file  /dev: is a folder";
+    assert_same_at(&rt, told(rt.alloc(), &fault)?.as_str(), wanted, "/dev");
     Ok(())
 }
 

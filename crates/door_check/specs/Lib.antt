@@ -1,0 +1,4 @@
+pub mod Allowed
+pub mod Doors
+pub mod Lines
+pub mod Report
