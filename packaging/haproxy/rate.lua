@@ -20,7 +20,6 @@ end
 -- A connection begins: only its requests are counted.
 function Rate:start_analyze(txn, channel)
     if not channel:is_resp() then
-        self.gate = txn:get_var("sess.gate") or "-"
         filter.register_data_filter(self, channel)
     end
 end
@@ -36,6 +35,8 @@ end
 
 -- Requests are there: passes on as many bytes as the certificate may send now.
 function Rate:tcp_payload(txn, channel)
+    -- The name may be known only once the connection's first bytes are there.
+    self.gate = self.gate or txn:get_var("sess.gate") or "-"
     local clock = core.now()
     local now = clock.sec + clock.usec / 1000000
     local found, size = counted(self.gate, Rate.most, now), channel:input()

@@ -125,6 +125,10 @@ FACTS: dict[str, tuple[Place | Read, list[Place]]] = {
             Place("docs/reference/TABLE.md", r"`5 TooMany` \| (?P<code>\d+) tables are there"),
             Place("tools/bovtrila/model.py", r"^MOST_TABLES = (?P<code>\d+)"),
         ]),
+    "the most bytes of a door": (
+        Place("crates/door_file/src/door.rt", r"const MOST_BYTES: usize = (?P<code>[\d_]+);"), [
+            Place("docs/reference/DOOR.md", r"document of at most (?P<code>[\d,]+) bytes"),
+        ]),
     "the program's version": (
         Place("VERSION", r"\A(?P<name>\d+\.\d+\.\d+)\n\Z"), [
             Place("crates/program_options/src/version.rt", r'^pub const VERSION: &str = "(?P<name>[\d.]+)$'),

@@ -14,7 +14,8 @@ PRINTED = re.compile(r"\w+(?:Fault|Cause)::(?P<name>\w+)(?:\((?P<fields>[^)]*)\)
 # What the programs print their faults by.
 PROGRAMS = {"bovtrila": "CommandFault", "gate_send": "SendFault"}
 # Lines that can be printed by their type alone: no command fails of them.
-UNPRINTED = {"bovtrila": ("fault journal 8 Full", "fault journal 9 NotEmpty", "fault journal 11 Stopped", "fault supply 1 Memory PLACE"),
+UNPRINTED = {"bovtrila": ("fault journal 8 Full", "fault journal 9 NotEmpty", "fault journal 11 Stopped", "fault supply 1 Memory PLACE",
+                          "fault door 1 Memory"),
              "gate_send": ("fault gate-file 3 BadLimit", "fault ask 1 Waiting", "fault ask 2 Stopped")}
 # A fault that is told as part of another one, whose line cites it.
 CITED = ("MigrateCause",)

@@ -3,6 +3,7 @@ import pathlib
 import re
 
 import fact_code
+import fact_door
 import fact_faults
 import fact_frames
 import fact_keys
@@ -12,7 +13,7 @@ from fact_regions import Region
 
 import program
 
-TABLE, LINES, COMMANDS, FARES = (f"docs/reference/{name}.md" for name in ("TABLE", "FAULTS", "COMMANDS", "FARES"))
+TABLE, DOOR, LINES, COMMANDS, FARES = (f"docs/reference/{name}.md" for name in ("TABLE", "DOOR", "FAULTS", "COMMANDS", "FARES"))
 STAMP = "crates/money_time/src/stamp.rt"
 # The tables of faults: the page and the region, the program, and the words after `fault` of the lines that the table has.
 FAULTS = {(TABLE, "faults"): ("bovtrila", ("table",)),
@@ -24,6 +25,8 @@ FAULTS = {(TABLE, "faults"): ("bovtrila", ("table",)),
           (LINES, "faults of a gate"): ("gate_send", ("file", "gate-file", "line", "clock", "ask", "answer", "tries", "enquiry"))}
 # Lines of gate_send that the other program prints too, for the same reason.
 SHARED = ("run",)
+# Lines whose table is made by fact_door.py.
+OF_A_DOOR = ("bovtrila", "door")
 
 
 def of_keys(top: pathlib.Path) -> Region:
@@ -34,10 +37,19 @@ def of_keys(top: pathlib.Path) -> Region:
     return Region(TABLE, "keys", ("Key | Type | Required | Range | Means", *rows), by_hand=1)
 
 
+def of_door(top: pathlib.Path) -> list[Region]:
+    """The keys of a door's file, the kinds of request, and the lines of its faults."""
+    rows = (f"`{key}` | {shape} | {limits}" for key, shape, limits in fact_door.keys(top))
+    return [Region(DOOR, "keys of a door", ("Key | Type | Range | If it is left out | Means", *rows), by_hand=2),
+            Region(DOOR, "kinds of requests of a door", ("Kind | Allows", *(f"`{word}`" for word in fact_door.kinds(top))), by_hand=1),
+            Region(DOOR, "faults of a door", ("Line | Cause | What to do", *(f"`{line}`" for line in fact_door.faults(top))), by_hand=2)]
+
+
 def of_faults(top: pathlib.Path) -> list[Region]:
     """The lines of faults. Each is in a table."""
     lines = {program: fact_faults.faults(top, program) for program in fact_faults.PROGRAMS}
-    listed = {(program, word) for program, words in FAULTS.values() for word in words} | {("gate_send", word) for word in SHARED}
+    listed = {(program, word) for program, words in FAULTS.values() for word in words}
+    listed |= {OF_A_DOOR, *(("gate_send", word) for word in SHARED)}
     for of, line in ((of, line) for of, own in lines.items() for line in own):
         if (of, line.split()[1]) not in listed:
             raise Wrong(f"no table has the line '{line}' of {of}; add it to FAULTS in scripts/dev/fact_page_texts.py")
@@ -92,4 +104,4 @@ def of_commands(top: pathlib.Path) -> list[Region]:
 
 def regions(top: pathlib.Path) -> list[Region]:
     """The regions of pages that are written in part by hand."""
-    return [of_keys(top), *of_faults(top), *of_commands(top), *of_fares(top)]
+    return [of_keys(top), *of_door(top), *of_faults(top), *of_commands(top), *of_fares(top)]

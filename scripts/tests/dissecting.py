@@ -11,7 +11,7 @@ import tempfile
 import time
 import unittest
 import xml.etree.ElementTree as ElementTree
-from collections.abc import Callable
+from collections.abc import Callable, Iterable
 from typing import Any, TypeAlias
 
 import clients
@@ -246,6 +246,53 @@ class Dissector(unittest.TestCase):
             done = subprocess.run(["tshark", "-X", f"lua_script:{script}", "-r", str(capture), *more], capture_output=True,
                                   text=True, timeout=TIME)
             self.assertIn(wanted, done.stdout, done.stderr)
+
+    def read_behind(self, pieces: Iterable[bytes]) -> list[list[str]]:
+        """What is shown of a connection whose requests come in these packets: of each packet the line, the name of the
+        certificate and the gate, and the address family that Wireshark itself shows of a header."""
+        dump, capture = self.file.with_name("pieces.txt"), self.file.with_name("pieces.pcapng")
+        dump.write_text("".join(f"0000 {piece.hex(' ')}\n" for piece in pieces))
+        subprocess.run(["text2pcap", "-q", "-T", "50000,4014", dump, capture], check=True, capture_output=True, timeout=TIME)
+        words = ["tshark", "-2", "-X", f"lua_script:{SCRIPT}", "-r", str(capture), "-T", "fields"]
+        for field in ("_ws.col.Info", "bovtrila.certificate", "bovtrila.gate", "proxy.v2.addr_family"):
+            words += ["-e", field]
+        done = subprocess.run(words, capture_output=True, text=True, check=True, timeout=TIME)
+        self.assertNotRegex(done.stderr, "Lua:? Error")
+        rows = [line.split("\t") for line in done.stdout.splitlines()]
+        # Its form, 1 or 0x01, is a matter of tshark.
+        return [[*row[:3], row[3] and str(int(row[3], 0))] for row in rows]
+
+    def test_the_header_of_haproxy_is_shown_with_the_certificates_name(self) -> None:
+        signature = "0d0a0d0a000d0a515549540a"
+        issue, enquiry = bytes.fromhex("000f0400070000000100000001677b8b28"), bytes.fromhex("00050500000001")
+        # TCP over IPv4 from 10.0.0.7 port 50000 to 10.0.0.1 port 4015, and TLS with the name gate-7.
+        named = bytes.fromhex(f"{signature} 21 11 001d 0a000007 0a000001 c350 0faf"
+                              "20 000e 03 00000000 22 0006 676174652d37")
+        # TCP over IPv6, a number of the connection, and TLS with its version and the name barrier-12.
+        longer = bytes.fromhex(f"{signature} 21 21 004a {'00' * 15} 07 {'00' * 15} 01 c350 0faf 05 0004 00000009"
+                               "20 001c 03 00000000 21 0007 544c5376312e33 22 000a 626172726965722d3132")
+        local = bytes.fromhex(f"{signature} 20 00 0000")
+        touched, asked = "Issue 7/1: card 1", "Enquiry of card 1"
+        for name, pieces, wanted in (
+            ("in one packet", [named + issue], [[f"PROXY header of gate-7; {touched}", "gate-7", "7", "1"]]),
+            ("another address", [longer, enquiry],
+             [["PROXY header of barrier-12", "barrier-12", "", "2"], [asked, "", "", ""]]),
+            ("no certificate", [local + enquiry, issue],
+             [[f"PROXY header; {asked}", "", "", "0"], [touched, "", "7", ""]]),
+        ):
+            with self.subTest(name):
+                self.assertEqual(self.read_behind(pieces), wanted)
+
+    def test_a_header_in_pieces_is_shown_once(self) -> None:
+        whole = bytes.fromhex("0d0a0d0a000d0a515549540a 20 00 0000 00050500000001")
+        lines = self.read_behind(whole[place:place + 1] for place in range(len(whole)))
+        shown = [line[0] for line in lines if not re.search(r"reassembled|→", line[0])]
+        self.assertEqual(shown, ["PROXY header", "Enquiry of card 1"])
+
+    def test_a_header_behind_a_request_is_no_frame(self) -> None:
+        header, enquiry = bytes.fromhex("0d0a0d0a000d0a515549540a 20 00 0000"), bytes.fromhex("00050500000001")
+        self.assertEqual([line[0] for line in self.read_behind([enquiry, header])], ["Enquiry of card 1", "No frame"])
+        self.assertEqual([line[0] for line in self.read_behind([header + header])], ["PROXY header; No frame"])
 
     def test_the_pieces_were_of_a_byte(self) -> None:
         words = ["tshark", "-r", str(self.file), "-Y", "tcp.len == 1", "-T", "fields", "-e", "frame.number"]

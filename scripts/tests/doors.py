@@ -1,6 +1,7 @@
 """A real stunnel or HAProxy in front of a server, the authority that lets gates in, and a relay that counts what comes
 through: for the scripts that connect through TLS.
 """
+import contextlib
 import os
 import pathlib
 import re
@@ -76,8 +77,11 @@ class Relay:
                 other.sendall(data)
             other.shutdown(socket.SHUT_WR)
         except OSError:
-            end.close()
-            other.close()
+            # Closing alone wakes no thread that reads the socket, and the other end would notice nothing.
+            for one in (end, other):
+                with contextlib.suppress(OSError):
+                    one.shutdown(socket.SHUT_RDWR)
+                one.close()
 
 
 def changes(tls: pathlib.Path, server: int, host: str = "127.0.0.1") -> tuple[Change, ...]:

@@ -1,5 +1,5 @@
 """A server behind a real HAProxy with packaging/haproxy, a gate that behaves, and connections of one that doesn't: for
-scripts/tests/test_gate_front.py.
+scripts/tests/test_gate_front.py and scripts/tests/test_door_front.py.
 """
 import contextlib
 import pathlib
@@ -73,6 +73,8 @@ class Behind(harness.ProgramTest):
     """A server behind an HAProxy, with an authority that has made certificates of gates 7, 8 and 9."""
 
     made: pathlib.Path
+    # Whether the server gets the name of each connection's certificate.
+    has_names = False
 
     @classmethod
     def setUpClass(cls) -> None:
@@ -97,6 +99,8 @@ class Behind(harness.ProgramTest):
     def serve(self, server: dict[str, Any] | None = None, **values: Any) -> None:
         """A server, a relay to it and an HAProxy with these values in front."""
         options: dict[str, Any] = {"connections": None, "lines": 8, "capacity": 5000, **(server or {})}
+        if self.has_names:
+            options["more"], values = (*options.get("more", ()), "--proxy"), {"PROXY": "yes", **values}
         self.server = Server(self.folder, **options)
         self.addCleanup(self.server.kill)
         self.relay = Relay(self.server.address)

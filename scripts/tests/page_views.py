@@ -16,6 +16,7 @@ import paged
 from bovtrila import codec, layout, overview, table_file, wire
 from bovtrila.day_charts import Pence
 from bovtrila.day_page import Stations
+from bovtrila.door_reports import Found, Refused
 from bovtrila.history_rows import Row
 from bovtrila.journal_view import Journal, Tables
 from bovtrila.web import facts as web_facts, history as web_history, view as web_view
@@ -72,20 +73,41 @@ class Views(unittest.TestCase):
 
     def test_each_value_is_escaped(self) -> None:
         """Whatever a journal, a table, a log or a program says, no element or attribute more is on the page."""
-        plain = self.shown(now_of(found={"up": False, "why": "x"}, warnings=["x"]), day_of(notes=["x"]), "x")
+        refused = Found({("x", "gate"): Refused(1, 7, "x", NOW)}, 0, 0)
+        plain = self.shown(now_of(found={"up": False, "why": "x"}, warnings=["x"], refused=refused),
+                           day_of(notes=["x"]), "x")
         gates = [Gate(7, HOSTILE, 0.0)]
         found = {"up": False, "why": HOSTILE, "server": HOSTILE, "address": HOSTILE}
-        page = pages().station(now_of(found=found, gates=gates, rows=[(HOSTILE, HOSTILE)], warnings=[HOSTILE]),
+        refused = Found({(HOSTILE, "gate"): Refused(1, 7, HOSTILE, NOW)}, 0, 0)
+        page = pages().station(now_of(found=found, gates=gates, rows=[(HOSTILE, HOSTILE)], warnings=[HOSTILE],
+                                      refused=refused),
                                day_of(notes=[HOSTILE], refusals=[(HOSTILE, 1)], maxima=[(HOSTILE, 1, Pence(1))],
                                       figures=[(HOSTILE, HOSTILE)]), HOSTILE)
         self.assertEqual((paged.Page(page).kinds, paged.Page(page).attributes), (plain.kinds, plain.attributes))
         self.assertNotIn("<script", page)
-        self.assertGreater(page.count("&lt;script&gt;"), 9)
+        self.assertGreater(page.count("&lt;script&gt;"), 10)
         row = Row(0, NOW, "2025-01-06", 7, 1, 1, "in", "2", "", HOSTILE, 0, 0)
         touches = Touches(1, [row], 2, Pence(0), Pence(0), Pence(0), True)
         card = pages({2: HOSTILE}).card("/touches", HOSTILE, touches, None, HOSTILE)
         self.assertNotIn("<script", card)
         self.assertEqual(card.count("&lt;script&gt;"), 4)
+
+    def test_what_the_door_refused_is_shown_with_the_last_report_first(self) -> None:
+        refused = {("barrier 7", "gate"): Refused(1012, 65_535, "barrier 7", NOW - 60),
+                   ("", "rule"): Refused(3, 0, "gate-70", NOW - 1), ("*", "kind"): Refused(1, 0, "*", BEGIN)}
+        page = self.shown(now_of(refused=Found(refused, 2, NOW - 30)), None)
+        self.assertEqual(page.tables["door-rows"][1:], [
+            ["gate-70", "a connection whose name has no rule", "", "3", "2025-01-06 14:29:59 GMT"],
+            ["", "connections without HAProxy's header", "", "2 or more", "2025-01-06 14:29:30 GMT"],
+            ["barrier 7", "a gate number that isn't in the rule", "65535", "1,012", "2025-01-06 14:29:00 GMT"],
+            ["*", "a kind of request that the rule doesn't allow", "", "1", "2025-01-06 04:30:00 GMT"]])
+        page = self.shown(now_of(refused=Found({}, 0, 0)), None)
+        self.assertEqual(("door-rows" in page.texts, page.texts["nothing-refused"]),
+                         (False, "The server has reported no refused request or connection today."))
+        page = self.shown(now_of(unread=HOSTILE), None)
+        self.assertEqual([name in page.texts for name in ("door", "door-rows", "nothing-refused")], [True, False, False])
+        # A server without a door has no such part.
+        self.assertNotIn("door", self.shown(now_of(), None).texts)
 
     def test_what_is_not_known_is_shown_so(self) -> None:
         page = self.shown(None, None)

@@ -9,7 +9,7 @@ import tempfile
 import unittest
 
 import panels
-from bovtrila.commands import exporter
+from bovtrila import metrics
 from harness import TIME, TOP
 
 PANELS = panels.of(TOP / "packaging" / "dashboard.json")
@@ -32,7 +32,9 @@ SERIES = {
     'bovtrila_last_touch_timestamp_seconds{instance="alder"}': "172740x2880",
     'bovtrila_copy_age_seconds{instance="alder"}': "100x2880", 'bovtrila_seal_age_seconds{instance="alder"}': "200x2880",
     'bovtrila_remote_copy_age_seconds{instance="alder"}': "30x2880",
-    'bovtrila_certificate_end_timestamp_seconds{instance="alder",certificate="server"}': "259200x2880"}
+    'bovtrila_certificate_end_timestamp_seconds{instance="alder",certificate="server"}': "259200x2880",
+    'bovtrila_not_allowed_total{instance="alder",rule="barrier-7",reason="gate"}': "0+12x2880",
+    'bovtrila_no_proxy_header_total{instance="birch"}': "0+1x2880"}
 ALDER, BIRCH = '{instance="alder"}', '{instance="birch"}'
 SHOWN: dict[str, list[tuple[str, float]]] = {
     "Servers that answer": [("{}", 1)], "Servers that are halted": [("{}", 1)], "Touches a minute": [(ALDER, 1)],
@@ -43,7 +45,9 @@ SHOWN: dict[str, list[tuple[str, float]]] = {
     "Age of copies and seals": [('bovtrila_copy_age_seconds{instance="alder"}', 100),
                                 ('bovtrila_seal_age_seconds{instance="alder"}', 200),
                                 ('bovtrila_remote_copy_age_seconds{instance="alder"}', 30)],
-    "Until certificates end": [('{instance="alder",certificate="server"}', 86_400)]}
+    "Until certificates end": [('{instance="alder",certificate="server"}', 86_400)],
+    "Refused by a door, a minute": [('{instance="alder",rule="barrier-7",reason="gate"}', 12)],
+    "Reports of connections without HAProxy's header, an hour": [(BIRCH, 60)]}
 
 
 class ServersDashboard(unittest.TestCase):
@@ -55,7 +59,8 @@ class ServersDashboard(unittest.TestCase):
     def test_each_metric_of_the_exporter_is_shown_and_no_other(self) -> None:
         shown = {name.removesuffix("_bucket") for of in panels.targets(PANELS, "prometheus").values() for target in of
                  for name in re.findall(r"bovtrila_(\w+)", target["expr"])}
-        self.assertEqual(shown, {*exporter.HELP, "enquiry_seconds", "certificate_end_timestamp_seconds"})
+        self.assertEqual(shown, {*metrics.HELP, "enquiry_seconds", "certificate_end_timestamp_seconds", "not_allowed_total",
+                                 "no_proxy_header_total"})
 
     def test_each_query_of_prometheus_has_its_value(self) -> None:
         if shutil.which("promtool") is None:

@@ -22,6 +22,7 @@ import harness
 from bovtrila import codec, model, places, vector_file, wire
 from bovtrila.commands import stand_in
 from bovtrila.commands.gate import Gate, day, revision
+from bovtrila.commands.gate import options as gate_options
 from bovtrila.wire import Wrong
 from harness import BIN, EXAMPLE, PROGRAM, REVISED, TIME, TOP
 from planted import Planted
@@ -325,9 +326,9 @@ class Relay(MakersTest):
 
 
 def options(**more: Any) -> argparse.Namespace:
-    """What bovtrila-gate is asked for."""
-    return argparse.Namespace(**{"timeout": 0.2, "backoff": 0.001, "tries": 30, "repeat": True, "quiet": True,
-                                 "secured": None, **more})
+    """What bovtrila-gate is asked for, as its own reader of options gives it."""
+    asked = gate_options(["127.0.0.1:1", "-", "--repeat", "--quiet"])
+    return argparse.Namespace(**{**vars(asked), "timeout": 0.2, "backoff": 0.001, "tries": 30, "secured": None, **more})
 
 
 class NewNumber(Gate):

@@ -377,8 +377,8 @@ class Sends(Refusals):
 
 
 class Tests(Refusals):
-    """Tests of a table's reading, a schedule, a replay, an audit, a statement, the disk in memory, a journal on it, and an
-    office on that."""
+    """Tests of the reading of a table and of a door, a schedule, a replay, an audit, a statement, the disk in memory, a
+    journal on it, and an office on that."""
 
     def sweep(self, crate: str, test: str, least: int) -> None:
         """Refuses each allocation of a test in turn, of which there are at least so many."""
@@ -427,6 +427,16 @@ class Tests(Refusals):
                      "a_fault_is_found_again_where_memory_was_refused"):
             with self.subTest(test):
                 self.sweep("account_tests", f"tests::of_fare_table::refused::{test}", 50)
+
+    def test_a_door(self) -> None:
+        for test in ("a_door_is_read_again_where_memory_was_refused",
+                     "an_unknown_key_is_named_where_memory_was_refused"):
+            with self.subTest(test):
+                self.sweep("door_file_tests", f"tests::refused::{test}", 10)
+        for test in ("a_door_is_checked_again_where_memory_was_refused",
+                     "a_door_is_opened_again_where_memory_was_refused"):
+            with self.subTest(test):
+                self.sweep("door_check_tests", f"tests::refused::{test}", 10)
 
     def test_an_office_on_a_disk_in_memory(self) -> None:
         for name in (

@@ -42,11 +42,12 @@ class Reading(unittest.TestCase):
 
     def test_each_setting_is_an_argument(self) -> None:
         words = settings.read(text("strict = yes", "standby = no", "# a comment", "", " idle=60 ", "revised = a.toml",
-                                   "stay-halted = yes", "report = 9", "connections = 3", "revised = b.toml"))
+                                   "stay-halted = yes", "report = 9", "connections = 3", "revised = b.toml",
+                                   "proxy = yes", "door = door.toml"))
         self.assertEqual(words.arguments(), [
             "--table", "first.toml", "--journal", "station.journal", "--cards", "10", "--capacity", "100", "--listen",
-            "127.0.0.1:4014", "--lines", "2", "--connections", "3", "--idle", "60", "--report", "9", "--strict",
-            "--stay-halted", "a.toml", "b.toml"])
+            "127.0.0.1:4014", "--lines", "2", "--connections", "3", "--idle", "60", "--report", "9", "--door",
+            "door.toml", "--strict", "--stay-halted", "--proxy", "a.toml", "b.toml"])
 
     def test_spaces_and_marks_in_a_name_stay(self) -> None:
         words = settings.read(text("revised = prices of 2026.toml", "revised = o'hare.toml", "revised = a=b;$c\\.toml"))

@@ -495,7 +495,7 @@ class Rules(InAFolder):
     def test_the_rules_are_valid(self) -> None:
         done = subprocess.run(["promtool", "check", "rules", ALERTS], capture_output=True, text=True)
         self.assertEqual(done.returncode, 0, done.stdout + done.stderr)
-        self.assertIn("SUCCESS: 11 rules found", done.stdout)
+        self.assertIn("SUCCESS: 12 rules found", done.stdout)
 
     def test_the_rules_tell_what_their_cases_say(self) -> None:
         self.assertTrue(self.holds(ALERTS.read_text()))
@@ -512,7 +512,8 @@ class Rules(InAFolder):
                            ("free_bytes < bov", "free_bytes <= bov"),
                            ("<= -7", "< -7"), (' or absent(up{job="bovtrila"})', ""),
                            (' or up{job="bovtrila"} == 0', ""), ("> 300", "> 600"), ("> 300", "> 200"),
-                           ("< 0.05", "<= 0.05"), ("< 0.05", "< 0.04"), (" and bovtrila_next_journal_enabled == 1", "")):
+                           ("< 0.05", "<= 0.05"), ("< 0.05", "< 0.04"), (" and bovtrila_next_journal_enabled == 1", ""),
+                           ("total[3m]", "total[15m]"), ("for: 10m", "for: 5m"), ("for: 10m", "for: 20m")):
             with self.subTest(was, other=other):
                 self.assertIn(was, text)
                 self.assertFalse(self.holds(text.replace(was, other)))

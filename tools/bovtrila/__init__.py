@@ -9,5 +9,5 @@
   new journal: due, old_server, handover, handover_steps.
 - Histories: history_rows, day_tally. The page of a day: day_charts, day_page, report_page, with the templates in templates/.
 - HTML pages are made of templates: templating.
-- The exporter's page: the package web. A network of stations: the package network.
+- The exporter: metrics, door_reports, and its page in the package web. A network of stations: the package network.
 """

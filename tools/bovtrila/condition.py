@@ -19,19 +19,29 @@ BATCH = 256
 INSIDE = 2
 
 
-def ask(line: wire.Connection) -> tuple[int | None, bool, float]:
+def ask(line: wire.Connection, has_door: bool = False) -> tuple[int | None, bool | None, float]:
     """Asks over a connection: how many touches the server shows (`None` for another answer), whether its disk has
-    failed, and how many seconds the enquiry took. Raises ConnectionError where the connection ends."""
+    failed, and how many seconds the enquiry took. A server with a door isn't asked whether its disk has failed (`None`):
+    the door would refuse the question, and report it. Raises ConnectionError where the connection ends."""
     begun = time.monotonic()
     line.send(codec.enquiry(1))
     answer = line.take()
     took = time.monotonic() - begun
-    line.send(NO_TABLE)
-    other = line.take()
-    if not answer or not other:
+    other = b"" if has_door else answer_to(line, NO_TABLE)
+    if not answer or not other and not has_door:
         raise ConnectionError("it closed the connection without an answer")
+    if wire.is_fault(answer, codec.NOT_ALLOWED):
+        raise wire.Wrong("its door lets no enquiry of this machine through: the rule * needs the kind enquiry")
     front = wire.fields_of(answer)["front"] if answer[2] == codec.HOLDING else None
+    if has_door or wire.is_fault(other, codec.NOT_ALLOWED):
+        return front, None, took
     return front, wire.is_fault(other, codec.HALTED), took
+
+
+def answer_to(line: wire.Connection, request: bytes) -> bytes:
+    """The answer to a request."""
+    line.send(request)
+    return line.take()
 
 
 def count_inside(line: wire.Connection, cards: Iterable[int]) -> int:

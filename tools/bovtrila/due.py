@@ -113,7 +113,7 @@ def clear(asked: argparse.Namespace, folder: pathlib.Path) -> None:
         raise Wrong(f"{new} has touches of gates, and {asked.config} names {plan['old']}: find out which of the two "
                     f"counts, and remove {folder}")
     if (folder / old_server.STOPPED).exists():
-        wrong = old_server.start(asked, asked.folder / plan["old"], words["listen"])
+        wrong = old_server.start(asked, asked.folder / plan["old"], words)
         if wrong:
             raise Wrong(wrong)
     new.unlink(missing_ok=True)

@@ -185,8 +185,9 @@ class Handover:
         anew."""
         words = self.following()
         words.options.update({"--journal": str(self.work / "new.journal"), "--listen": "127.0.0.1:0", "--lines": "1"})
-        # The journal is to be made, and nothing is to be waited for.
+        # The journal is to be made, nothing is to be waited for, and no rule of the door is for this script.
         words.flags = []
+        words.options.pop("--door", None)
         begin = [self.program, "serve", *words.arguments()]
         try:
             server = serving.Started(begin, cwd=self.folder, **self.owner.start)
@@ -244,11 +245,11 @@ class Handover:
             serving.write(self.asked.config, settings.written(words, settings.text_of(self.asked.config)))
         if not self.asked.start and not serving.has_server(self.new):
             return f"start the server now, by the settings in {self.asked.config}"
-        wrong = old_server.start(self.asked, self.new, words["listen"])
+        wrong = old_server.start(self.asked, self.new, words)
         if wrong:
             raise Wrong(f"{wrong}: start it by the settings in {self.asked.config}, and give the same command again")
         # It has answered once; gates that connect again may take all its slots meanwhile.
-        fronts = (serving.front_at(words["listen"]) for _ in range(3))
+        fronts = (serving.front_of(words) for _ in range(3))
         front = next((front for front in fronts if front is not None), 0)
         if front < self.sent:
             raise Wrong(f"the server at {words['listen']} has {front} touches, and {self.sent} were sent: is it another's?")

@@ -89,14 +89,14 @@ def locked(journal: pathlib.Path, patience: float) -> BinaryIO | None:
             time.sleep(0.1)
 
 
-def start(asked: argparse.Namespace, journal: pathlib.Path, listen: str) -> str | None:
+def start(asked: argparse.Namespace, journal: pathlib.Path, words: settings.Words) -> str | None:
     """Starts the server of a journal if none has it: what is wrong, or nothing once it answers."""
     if not serving.has_server(journal) and by_shell(asked.start):
         return f"'{asked.start}' failed, so no server has {journal.name}"
     limit = time.monotonic() + asked.patience
-    while serving.front_at(listen) is None:
+    while serving.front_of(words) is None:
         if time.monotonic() > limit:
-            return f"the server of {journal.name} at {listen} doesn't answer"
+            return f"the server of {journal.name} at {words['listen']} doesn't answer"
         time.sleep(0.1)
     return None
 
@@ -115,7 +115,7 @@ class OldServer:
     def now(self) -> int:
         """How many touches it has. An unattended run changes no server that doesn't answer: somebody may have stopped
         it."""
-        front = serving.front_at(self.listen)
+        front = serving.front_of(self.words)
         if front is None:
             raise Wrong(f"no server answers at {self.listen}, or all its connection slots are taken: start it, or raise "
                         "`lines`. Nothing was changed")
@@ -139,11 +139,11 @@ class OldServer:
 
     def look(self) -> str:
         """Checks that no touch comes, as somebody has confirmed."""
-        self.front = serving.front_at(self.listen)
+        self.front = serving.front_of(self.words)
         if self.front is None:
             return "no server answers: nothing can come"
         time.sleep(self.asked.watch)
-        again = serving.front_at(self.listen)
+        again = serving.front_of(self.words)
         if again is not None and again != self.front:
             raise Wrong(f"{again - self.front} touches came within {self.asked.watch} s: wait until each gate has its "
                         f"answers ({PAGES})")
@@ -175,7 +175,7 @@ class OldServer:
         """Lets it run again: what was done, in words."""
         if self.lock is not None:
             self.lock.close()
-        wrong = start(self.asked, self.journal, self.listen)
+        wrong = start(self.asked, self.journal, self.words)
         if wrong:
             return f"and {wrong}: start it by hand"
         self.forget()
@@ -194,6 +194,6 @@ class OldServer:
                 config = self.asked.config
                 serving.write(config, settings.written(self.words, settings.text_of(config)))
                 return self.back()
-        wrong = start(self.asked, new, self.listen)
+        wrong = start(self.asked, new, self.words)
         return (f"{new.name} has {touches - sent} touches of gates already, so the server stays on it"
                 + (f", and {wrong}: start it by hand" if wrong else ""))

@@ -8,7 +8,7 @@ import subprocess
 from collections.abc import Mapping
 from typing import Any, NamedTuple
 
-from bovtrila import condition, copies, serving, settings, wire
+from bovtrila import condition, copies, proxied, serving, settings, wire
 from bovtrila.journal_view import Journal, Tables, pace, revised, told, utc
 from bovtrila.wire import Wrong
 
@@ -20,7 +20,8 @@ FAR = "2100"
 
 class Target(NamedTuple):
     """A server: its unit of systemd and the folder of its copies, where these are known, its address, and the files of its
-    journal and its tables; and what is wrong with the settings that name them."""
+    journal and its tables; what is wrong with the settings that name them; the header with which a connection to it begins;
+    and whether it has a door."""
 
     unit: str | None
     address: wire.Address
@@ -28,6 +29,8 @@ class Target(NamedTuple):
     tables: tuple[str, ...]
     copies: pathlib.Path | None
     wrong: str | None = None
+    header: bytes = b""
+    has_door: bool = False
 
 
 # What is known of a server, by the names of --json.
@@ -44,7 +47,7 @@ def target_of(name: str | None, config: pathlib.Path, folder: pathlib.Path) -> T
     # Without the first table the others have no clock.
     tables = [*known["table"][:1], *known["revised"]] if known["table"] else []
     return Target(unit, serving.reached_at(known["listen"][0]), journal, tuple(str(folder / table) for table in tables),
-                  folder / "copies", wrong)
+                  folder / "copies", wrong, proxied.WITHOUT if known["proxy"] else b"", bool(known["door"]))
 
 
 def nothing(now: float) -> Found:
@@ -57,8 +60,8 @@ def ask(target: Target, timeout: float, cards: set[int] | None, found: Found) ->
     """Asks the server, and each of these cards whether it is inside."""
     found["cards_inside"] = None
     try:
-        with wire.Connection(target.address, timeout) as line:
-            front, found["halted"], took = condition.ask(line)
+        with wire.Connection(target.address, timeout, header=target.header) as line:
+            front, found["halted"], took = condition.ask(line, target.has_door)
             found["answers"], found["answer_milliseconds"] = front is not None, round(1000 * took, 2)
             found["touches"] = front
             if cards is not None:

@@ -3,6 +3,7 @@
 port. The server that runs isn't touched. For bovtrila-start and bovtrila-new-fares.
 """
 import contextlib
+import ipaddress
 import os
 import pathlib
 import shutil
@@ -30,7 +31,7 @@ def rehearsed(program: str, words: settings.Words, folder: pathlib.Path, owner: 
         if journal.exists():
             copy(journal, copied, owner)
         tried.options.update({"--journal": str(copied), "--listen": "127.0.0.1:0"})
-        tried.flags = [flag for flag in words.flags if flag == "--strict"]
+        tried.flags = [flag for flag in words.flags if flag in ("--strict", "--proxy")]
         for name, path in (tables or {}).items():
             shutil.copyfile(path, room / name)
             owner.take(room / name, 0o640)
@@ -68,6 +69,8 @@ def acting(owner: serving.Owner) -> Iterator[None]:
 def address_fault(words: settings.Words, journal: pathlib.Path, owner: serving.Owner) -> str | None:
     """Why the server can't listen at its address, or nothing. Its own running server may listen there."""
     host, port = wire.address(words["listen"])
+    if "--proxy" in words.flags and not is_loopback(host):
+        return "with `proxy = yes` it has to be an address of this machine alone, as 127.0.0.1:4014"
     try:
         with acting(owner), socket.socket(socket.AF_INET6 if ":" in host else socket.AF_INET) as tried:
             tried.setsockopt(socket.SOL_SOCKET, socket.SO_REUSEADDR, 1)
@@ -80,9 +83,17 @@ def address_fault(words: settings.Words, journal: pathlib.Path, owner: serving.O
     return None
 
 
+def is_loopback(host: str) -> bool:
+    """Whether this is an address that only programs of this machine reach."""
+    try:
+        return ipaddress.ip_address(host).is_loopback
+    except ValueError:
+        return False
+
+
 def place_of(text: str, said: str, words: settings.Words) -> int:
     """The line of the settings that a fault of a server is about, as far as its second line names a file of theirs."""
-    for name, values in ((name, words.values(name)) for name in ("table", "journal", settings.REVISED)):
+    for name, values in ((name, words.values(name)) for name in ("table", "journal", "door", settings.REVISED)):
         for value in values:
             if f"  {value}: " in said:
                 return settings.line_of(text, name, value)

@@ -164,10 +164,16 @@ def has_server(journal: str | pathlib.Path) -> bool:
     return False
 
 
-def front_at(listen: str) -> int | None:
-    """How many touches the server that listens at an address has, or None where none answers."""
+def front_of(words: settings.Words) -> int | None:
+    """How many touches the server with these settings has, or None where none answers."""
+    return front_at(words["listen"], words.header())
+
+
+def front_at(listen: str, header: bytes = b"") -> int | None:
+    """How many touches the server that listens at an address has, or None where none answers. The connection begins with
+    this header."""
     try:
-        with wire.Connection(reached_at(listen), 5) as line:
+        with wire.Connection(reached_at(listen), 5, header=header) as line:
             line.send(codec.enquiry(1))
             answer = line.take()
     except OSError:

@@ -8,12 +8,13 @@ import re
 import shlex
 from collections.abc import Iterable
 
-from bovtrila import places, wire
+from bovtrila import places, proxied, wire
 from bovtrila.wire import Wrong
 
 # The options of `serve` with a value, those without, and the one name of the file that is no option: a further argument.
-VALUES = ("--table", "--journal", "--cards", "--capacity", "--listen", "--lines", "--connections", "--idle", "--report")
-FLAGS = ("--strict", "--standby", "--stay-halted")
+VALUES = ("--table", "--journal", "--cards", "--capacity", "--listen", "--lines", "--connections", "--idle", "--report",
+          "--door")
+FLAGS = ("--strict", "--standby", "--stay-halted", "--proxy")
 REVISED = "revised"
 NAMES = (*(option[2:] for option in (*VALUES, *FLAGS)), REVISED)
 # Which a server needs, and the least and the most of each number.
@@ -68,6 +69,10 @@ class Words:
 
     def __getitem__(self, name: str) -> str:
         return self.options[f"--{name}"]
+
+    def header(self, name: str | None = None) -> bytes:
+        """The bytes with which a connection to the server begins: a header with this name or none, where it has --proxy."""
+        return proxied.header(name) if "--proxy" in self.flags else b""
 
     def tables(self) -> list[str]:
         """The files of its tables, the first one first."""

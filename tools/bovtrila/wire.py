@@ -199,12 +199,14 @@ def listener(where: Address) -> tuple[socket.socket, str]:
 
 
 class Connection:
-    """A connection to a server, through TLS where that is named, on which each read waits at most so many seconds."""
+    """A connection to a server, through TLS where that is named, on which each read waits at most so many seconds. It
+    begins with these bytes: a header for a server with --proxy (proxied.py), or none."""
 
-    def __init__(self, where: Address, timeout: float, tls: "secured.Tls | None" = None) -> None:
+    def __init__(self, where: Address, timeout: float, tls: "secured.Tls | None" = None, header: bytes = b"") -> None:
         self.timeout = timeout
         plain = socket.create_connection(where, timeout)
         plain.setsockopt(socket.IPPROTO_TCP, socket.TCP_NODELAY, 1)
+        plain.sendall(header)
         self.socket: "socket.socket | secured.Secured" = plain if tls is None else tls.over(plain, where[0])
 
     def __enter__(self) -> Self:

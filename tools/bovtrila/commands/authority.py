@@ -8,7 +8,9 @@ may connect"). It runs openssl, and asks no questions.
                                  is missing
     gate FOLDER NAME ..          makes a certificate for each gate that has
                                  none. NAME is the gate's number, from 0 to
-                                 65535, or a name with a letter
+                                 65535, or a name with a letter, such as a role
+                                 and a number: barrier-7, machine-3. A server's
+                                 door has rules by these names
     revoke FOLDER NAME ..        adds the gates' certificates to the revocation
                                  list. `gate` then makes new ones
     renew FOLDER [NAME ..]       makes the server's certificate and the
@@ -39,6 +41,7 @@ printed something.
 
     bovtrila-authority begin tls --name gates.station --name 192.168.7.2
     bovtrila-authority gate tls 7 8 9
+    bovtrila-authority gate tls barrier-7 machine-3 back-office
     bovtrila-authority revoke tls 8
     bovtrila-authority renew tls 7 9
     bovtrila-authority list tls

@@ -1,25 +1,28 @@
 # SPDX-License-Identifier: Apache-2.0
 """Serves metrics of a running server to Prometheus, and a page for people at http://127.0.0.1:9814/. The metrics are whether
 the server answers and how fast, whether it is halted, how many touches it has, how much room its journal and its disk have
-left, how old the last copies and the last seal of its journal are, and when the certificates of its TLS end.
+left, how old the last copies and the last seal of its journal are, when the certificates of its TLS end, and what its door
+refuses.
 
 The page shows the facts of bovtrila-status with warnings; today's touches, refusals and maximum charges; the gates with
-their last touch and their share of refusals; and a card's statement and touches. It refreshes itself, needs no JavaScript,
-and changes nothing. `bovtrila history` prints the touches and `bovtrila statement` the statement, each in at most 20 seconds
-and 1 GiB of memory. Anyone who can connect to the address can read the page. OPERATING.md, "A page for the
-staff", describes how to put it behind a password.
+their last touch and their share of refusals; what the door refused today; and a card's statement and touches. It
+refreshes itself, needs no JavaScript, and changes nothing. `bovtrila history` prints the touches and `bovtrila statement`
+the statement, each in at most 20 seconds and 1 GiB of memory. Anyone who can connect to the address can read the page.
+OPERATING.md, "A page for the staff", describes how to put it behind a password.
 
 It opens one connection to the server, which takes one connection slot (--lines), and sends requests over it at a fixed
 interval. An enquiry changes nothing. The second request is a revision to a table that no server has. A halted server
-answers it with fault 3 and any other with fault 6; none records it (PROTOCOL.md, "Revisions"). The exporter
-also reads the journal's file, without a lock. /metrics returns the values that it found last.
+answers it with fault 3 and any other with fault 6; none records it (PROTOCOL.md, "Revisions"). A server with a door isn't
+sent the second request, and its door needs a rule * with enquiries. The exporter also reads the journal's file, without a
+lock. /metrics returns the values that it found last.
 
 /health is for programs such as curl. It returns one line of JSON that says whether the server takes new touches, with
 status 200 if it does. The status is 503 if the server doesn't answer, is halted or full, or has a full disk; "why" has
 the reason.
 
     bovtrila_up                 1 if the server answers, else 0
-    bovtrila_halted             1 if its disk has failed: it records no touch
+    bovtrila_halted             1 if its disk has failed: it records no touch.
+                                It isn't there for a server with a door
     bovtrila_enquiry_seconds    how long enquiries took, a histogram
     bovtrila_touches            how many touches its history has
     bovtrila_capacity           how many touches its journal has room for
@@ -47,11 +50,21 @@ the reason.
                                 of the server, of the authority, of its
                                 revocation list, and of each gate in the
                                 authority's list there
+    bovtrila_not_allowed_total  how many requests and connections its door has
+                                refused since the machine started, by the rule
+                                and the reason (FAULTS.md, "What a door
+                                refuses"). The reason "rule" has no rule
+    bovtrila_no_proxy_header_total
+                                how many lines `no proxy header` it has printed
+                                since then, at most one a minute
 
 A metric is left out if its value isn't known, such as the age of remote copies before bovtrila-send-copy first ran, or
-with --server, which names no folder, the two of bovtrila-next-journal.
-If there is no copy or no seal, its age is infinite. The server and its journal are those in the
-settings (--config), which are read again each time. Therefore the exporter follows a server to its next journal.
+with --server, which names no folder, the two of bovtrila-next-journal. If there is no copy or no seal, its age is
+infinite. The last two metrics count lines that the server's unit has in systemd's journal. They need python3-systemd, a
+user in the group systemd-journal, and with --server or --config the option --unit.
+
+The server and its journal are those in the settings (--config), which are read again each time. Therefore the exporter
+follows a server to its next journal.
 
 It listens on 127.0.0.1:9814. With --name, for one of several servers, the port is the server's port plus 5800: 9816 for
 the server at port 4016.
@@ -63,6 +76,7 @@ status is 1 if it can't start, for example if the settings name no address, and 
     bovtrila-exporter --name alder-1 --listen 127.0.0.1:9816
     bovtrila-exporter --server 127.0.0.1:4014 --journal station.journal --copies /mnt/copies --every 2
     bovtrila-exporter --server 127.0.0.1:4014 --journal station.journal --table first.toml
+    bovtrila-exporter --server 127.0.0.1:4014 --proxy --unit bovtrila-trial
     curl http://127.0.0.1:9814/health
 """
 import argparse
@@ -78,15 +92,17 @@ from typing import Any
 
 try:
     from prometheus_client import CollectorRegistry, Histogram
-    from prometheus_client.core import GaugeMetricFamily
     from prometheus_client.exposition import CONTENT_TYPE_LATEST, generate_latest
+
+    from bovtrila import metrics
 
     HAS_CLIENT = True
 except ImportError:
     # --help is there all the same.
     HAS_CLIENT = False
 
-from bovtrila import certificates, condition, copies, due, journal_tail, overview, serving, settings, wire
+from bovtrila import certificates, condition, copies, due, journal_tail, overview, proxied, serving, settings, wire
+from bovtrila.door_reports import Found, Reports
 from bovtrila.web import server as web_server
 from bovtrila.web.server import Answer
 from bovtrila.wire import Wrong
@@ -104,22 +120,6 @@ HOUR = 3600
 ELSEWHERE = "/metrics and /health are there all the same"
 # Where it listens for the server at port 4014.
 PLACE = ("127.0.0.1", 9814)
-BUCKETS = (.0001, .00025, .0005, .001, .0025, .005, .01, .025, .05, .1, .25, .5, 1, 2.5)
-HELP = {
-    "up": "Whether the server answers.",
-    "halted": "Whether the journal's disk has failed, so that the server records no touch.",
-    "touches": "How many touches the server's history has.",
-    "capacity": "How many touches the journal has room for in all.",
-    "room": "How many more touches the journal has room for.",
-    "last_touch_timestamp_seconds": "When the journal was written last, by this machine's clock.",
-    "journal_missing_bytes": "What the journal hasn't got yet of its whole size.",
-    "disk_free_bytes": "What the journal's disk has free, for others than root.",
-    "copy_age_seconds": "How old the newest copy of the journal is.",
-    "seal_age_seconds": "How old the newest seal of the journal is.",
-    "remote_copy_age_seconds": "How old the newest touches are that another computer has.",
-    "next_journal_enabled": "Whether the timer is enabled that changes to a new journal.",
-    "next_journal_failed": "Whether the last unattended change to a new journal failed.",
-}
 
 
 class Watch:
@@ -128,7 +128,8 @@ class Watch:
     def __init__(self, asked: argparse.Namespace) -> None:
         self.asked, self.lock = asked, threading.Lock()
         self.line: wire.Connection | None = None
-        self.at: tuple[str, int] | None = None
+        self.at: tuple[wire.Address, bytes] | None = None
+        self.has_door = False
         self.tail: journal_tail.Tail | None = None
         # The server's journal, by the settings that were read last.
         self.journal: str | None = None
@@ -139,12 +140,14 @@ class Watch:
         self.ends: dict[str, float] = {}
         self.ends_read: float | None = None
         self.ends_wrong: list[str] = []
+        self.reports = Reports(asked.logs)
+        self.refused: Found | None = None
         self.board: Board | None = None
         if HAS_PAGE:
             self.board = Board(self.target, asked.program, asked.every, 3 * asked.every + 4 * asked.timeout)
         self.registry = CollectorRegistry()
         self.taken = Histogram("bovtrila_enquiry_seconds", "How long the server took to answer an enquiry.",
-                               buckets=BUCKETS, registry=self.registry)
+                               buckets=metrics.BUCKETS, registry=self.registry)
         collector: Any = self
         self.registry.register(collector)
 
@@ -169,13 +172,8 @@ class Watch:
         if not self.asked.server:
             found["next_journal_enabled"] = int(due.is_enabled(self.asked.name, self.asked.timers))
             found["next_journal_failed"] = int((self.asked.folder / due.FAILED).exists())
-        for name, value in found.items():
-            yield GaugeMetricFamily(f"bovtrila_{name}", HELP[name], value)
-        family = GaugeMetricFamily("bovtrila_certificate_end_timestamp_seconds", "When a certificate ends.",
-                                   labels=["certificate"])
-        for name, end in sorted(self.ends.items()):
-            family.add_metric([name], end)
-        yield family
+        yield from metrics.gauges(found, self.ends)
+        yield from metrics.counters(self.refused)
 
     def health(self) -> tuple[bool, dict[str, Any]]:
         """Whether the server takes new touches, and what is known of it."""
@@ -187,41 +185,40 @@ class Watch:
         """The server that the page shows."""
         asked = self.asked
         if asked.server:
-            server = overview.Target(None, asked.server, asked.journal, tuple(asked.table), asked.copies)
-            return Target(server, None, None)
+            return Target(self.where()._replace(tables=tuple(asked.table), copies=asked.copies), None, None, asked.logs)
         server = overview.target_of(asked.name, asked.config, asked.folder)
+        server = server._replace(copies=asked.copies or server.copies, unit=asked.unit or server.unit)
         lines = settings.known_of(asked.config)[0]["lines"]
-        return Target(server._replace(copies=asked.copies or server.copies), int(lines[0]) if lines else None, asked.folder)
+        return Target(server, int(lines[0]) if lines else None, asked.folder, asked.logs)
 
-    def where(self) -> tuple[tuple[str, int], str | None, str | None]:
-        """The server's address and its journal, those that are asked for or those of its settings; and what is wrong with
-        the settings. A server that runs isn't down because a line of them is wrong."""
+    def where(self) -> overview.Target:
+        """The server that is asked for, or that of the settings. One that runs isn't down because a line of them is
+        wrong."""
         asked = self.asked
         if asked.server:
-            return asked.server, asked.journal, None
-        known, wrong = settings.known_of(asked.config)
-        if wrong is not None and not known["listen"]:
-            raise Wrong(wrong)
-        journal = str(asked.folder / known["journal"][0]) if known["journal"] else self.journal
-        return serving.reached_at(known["listen"][0]), journal, wrong
+            header = proxied.WITHOUT if asked.proxy else b""
+            return overview.Target(asked.unit, asked.server, asked.journal, (), None, None, header)
+        target = overview.target_of(asked.name, asked.config, asked.folder)
+        return target._replace(journal=target.journal or self.journal, unit=asked.unit or target.unit)
 
     def listens_at(self) -> tuple[str, int]:
         """Where Prometheus asks: of one of several servers at a port that goes by the server's own."""
         if self.asked.listen or not self.asked.name:
             return self.asked.listen or PLACE
-        return PLACE[0], self.where()[0][1] + PLACE[1] - 4014
+        return PLACE[0], self.where().address[1] + PLACE[1] - 4014
 
     def look(self) -> None:
         """Asks the server and reads the journal, once."""
         found: dict[str, float] = {"up": 0}
         wrongs: list[str] = []
         try:
-            address, journal, wrong = self.where()
-            self.journal = journal
-            wrongs += [wrong] if wrong else []
-            wrongs += self.ask(address, found)
-            if journal:
-                wrongs += self.read(journal, found)
+            server = self.where()
+            self.journal = server.journal
+            wrongs += [server.wrong] if server.wrong else []
+            self.read_reports(server)
+            wrongs += self.ask(server, found)
+            if server.journal:
+                wrongs += self.read(server.journal, found)
         except Wrong as wrong:
             wrongs.append(str(wrong))
         self.show(found, "; ".join(wrongs) or None)
@@ -251,22 +248,26 @@ class Watch:
             self.board.fail(answer, str(error), now)
             self.hang_up()
 
-    def ask(self, address: tuple[str, int], found: dict[str, float]) -> list[str]:
+    def ask(self, server: overview.Target, found: dict[str, float]) -> list[str]:
         """Asks over the connection that is kept, or over a new one: what is wrong."""
-        self.front = None
+        self.front, at = None, (server.address, server.header)
         try:
-            if self.line is None or self.at != address:
+            if self.line is None or self.at != at:
                 self.hang_up()
-                self.line, self.at = wire.Connection(address, self.asked.timeout), address
-            front, is_halted, took = condition.ask(self.line)
+                self.line, self.at = wire.Connection(server.address, self.asked.timeout, header=server.header), at
+                self.has_door = False
+            front, is_halted, took = condition.ask(self.line, self.has_door or server.has_door)
         except (OSError, Wrong) as error:
             self.hang_up()
-            return [f"the server at {address[0]}:{address[1]} doesn't answer: {error}"]
+            return [f"the server at {server.address[0]}:{server.address[1]} doesn't answer: {error}"]
+        # A door would refuse the question again, and report it each time.
+        self.has_door = is_halted is None
         if front is not None:
             found["up"], found["touches"] = 1, front
             self.front, self.took = front, took
             self.taken.observe(took)
-        found["halted"] = int(is_halted)
+        if is_halted is not None:
+            found["halted"] = int(is_halted)
         return ["the server is halted"] if is_halted else []
 
     def hang_up(self) -> None:
@@ -293,6 +294,14 @@ class Watch:
         if touches:
             found["last_touch_timestamp_seconds"] = self.tail.written
         return []
+
+    def read_reports(self, server: overview.Target) -> None:
+        """Reads what the server's door refused, if the server may have one and its unit is known."""
+        before = self.reports.trouble
+        is_wanted = server.unit and (self.asked.unit or server.has_door or server.header)
+        self.refused = self.reports.read(server.unit) if server.unit and is_wanted else None
+        if self.reports.trouble not in (None, before):
+            print(f"what the server's door refused isn't known: {self.reports.trouble}", file=sys.stderr, flush=True)
 
     def read_ends(self) -> list[str]:
         """Reads when the certificates end, once an hour: what is wrong."""
@@ -328,6 +337,7 @@ def options() -> argparse.Namespace:
     parser.add_argument("--name", metavar="NAME", help="the server's name, if it is one of several")
     parser.add_argument("--server", metavar="ADDR", type=wire.address,
                         help="HOST:PORT of the server, instead of the settings")
+    parser.add_argument("--proxy", action="store_true", help="with --server: the server has --proxy")
     parser.add_argument("--journal", metavar="FILE", help="its journal, with --server")
     parser.add_argument("--table", metavar="FILE", action="append", default=[],
                         help="with --journal: a fare table of the server, for the page; the first one first")
@@ -339,8 +349,10 @@ def options() -> argparse.Namespace:
                         help="where bovtrila-send-copy writes what it sent")
     parser.add_argument("--timers", metavar="FOLDER", type=pathlib.Path, default=due.TIMERS,
                         help=f"where systemd links enabled timers ({due.TIMERS})")
-    parser.add_argument("--tls", metavar="FOLDER", type=pathlib.Path,
-                        help="the folder with the certificates of its TLS")
+    parser.add_argument("--unit", metavar="NAME", help="the server's unit of systemd, for what its door refused")
+    parser.add_argument("--logs", metavar="FOLDER", type=pathlib.Path,
+                        help="where systemd's journal has its files, if they are copied, for what the door refused")
+    parser.add_argument("--tls", metavar="FOLDER", type=pathlib.Path, help="the folder with the certificates of its TLS")
     parser.add_argument("--listen", metavar="ADDR", type=wire.address,
                         help="the address for Prometheus and for browsers (127.0.0.1:9814)")
     parser.add_argument("--every", metavar="SECONDS", type=float, default=5,
@@ -349,6 +361,8 @@ def options() -> argparse.Namespace:
     asked = parser.parse_args()
     if asked.every <= 0 or asked.timeout <= 0:
         parser.error("--every and --timeout have to be above 0")
+    if asked.proxy and not asked.server:
+        parser.error("--proxy goes with --server; without it the settings have `proxy`")
     if asked.journal and not asked.server:
         parser.error("--journal goes with --server; without it the settings name the journal")
     if asked.table and not asked.journal:

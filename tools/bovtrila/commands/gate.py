@@ -23,6 +23,9 @@ With --barrier FILE it writes a line 'GATE NUMBER' for each touch that opens the
 It stores no touches between two runs. Therefore a second run with the same touches opens the barrier for them again,
 which a real gate must not do after its start (PROTOCOL.md, "After a gate's start").
 
+A server with --proxy reads a header at the beginning of each connection, which HAProxy writes for gates. On the
+server's machine --proxy NAME writes it for this script: the door then applies the rule of this certificate's name.
+
 With --servers FILE instead of the address, the cards are shared out among several servers. A line of FILE such as
 `1-100000 127.0.0.1:4014` says that the network's cards 1 to 100000 are the cards of that server, from its card 1 on.
 Requests have the network's card numbers. Each goes to the server of its card, with that server's number for the card;
@@ -48,7 +51,7 @@ import time
 from collections.abc import Callable, Sequence
 from typing import Protocol, TextIO
 
-from bovtrila import codec, fare_changes, secured, vector_file, wire
+from bovtrila import codec, fare_changes, proxied, secured, vector_file, wire
 from bovtrila.wire import Wrong
 
 # The longest wait before a touch is sent again, in seconds.
@@ -95,7 +98,7 @@ class Gate:
     def ask_once(self, request: bytes, loses: bool) -> bytes:
         """The answer to a request that is sent once. Loses it where that is asked for."""
         if self.connection is None:
-            self.connection = wire.Connection(self.address, self.options.timeout, self.options.secured)
+            self.connection = wire.Connection(self.address, self.options.timeout, self.options.secured, self.options.header)
         self.connection.send(request)
         if loses:
             raise ConnectionError("the answer was dropped")
@@ -261,15 +264,19 @@ def parser() -> argparse.ArgumentParser:
     parser.add_argument("--repeat", action="store_true",
                         help="send a touch again after fault 3 or 4, and after another touch's answer, too")
     secured.add_option(parser)
+    parser.add_argument("--proxy", metavar="NAME", type=proxied.certificate,
+                        help="the server has --proxy: begin each connection with a header that has this\n"
+                        "certificate's name, or - for none")
     parser.add_argument("--barrier", metavar="FILE",
                         help="write a line 'GATE NUMBER' to FILE for each touch that opens the barrier")
     parser.add_argument("--quiet", action="store_true", help="don't report each repeat")
     return parser
 
 
-def options() -> argparse.Namespace:
+def options(words: Sequence[str] | None = None) -> argparse.Namespace:
+    """What these words ask for, or those of the command line."""
     reader = parser()
-    asked = reader.parse_args()
+    asked = reader.parse_args(words)
     if asked.servers is not None:
         if asked.file is not None or asked.vectors is not None:
             reader.error("--servers FILE takes the place of the address, and doesn't go with --vectors")
@@ -285,6 +292,9 @@ def options() -> argparse.Namespace:
         reader.error("name a file of request lines, or --vectors FILE, or --revise FILE --from DATE")
     if (asked.revise is None) != (asked.first is None):
         reader.error("--revise FILE and --from DATE go together")
+    if asked.proxy is not None and asked.tls is not None:
+        reader.error("--proxy is for the server itself, and doesn't go with --tls")
+    asked.header = b"" if asked.proxy is None else proxied.header(None if asked.proxy == "-" else asked.proxy)
     if asked.timeout <= 0 or asked.backoff < 0 or asked.tries < 1:
         reader.error("--timeout and --tries have to be above 0, and --backoff not below it")
     return asked

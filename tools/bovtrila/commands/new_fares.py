@@ -17,6 +17,9 @@ Nothing is changed before step 5. If a run is cut off at any step, by a loss of 
 it does what is left. If the fares are revised already, the script reports that and changes nothing. With --dry-run it
 ends after the rehearsal.
 
+If the server has a door, the door has to let the revision through. With `proxy = yes` in the settings the script sends it
+under the certificate's name back-office, or the name of --as; without it the rule * counts.
+
 Never change the file later: the journal identifies it by its bytes. A server that shares its disk with a spare computer
 (`standby`) is refused: OPERATING.md has the steps by hand.
 
@@ -38,7 +41,7 @@ import sys
 import time
 from collections.abc import Callable, Iterator, Sequence
 
-from bovtrila import fare_changes, places, rehearsal, serving, settings, wire
+from bovtrila import fare_changes, places, proxied, rehearsal, serving, settings, wire
 from bovtrila.day_charts import clock
 from bovtrila.wire import Wrong
 
@@ -67,6 +70,9 @@ def options() -> argparse.Namespace:
                         help="the gate number of the revision, which no gate of the station has (65535)")
     parser.add_argument("--number", metavar="N", type=serving.whole(0, 2**32 - 1),
                         help="the revision's number (that of the day)")
+    parser.add_argument("--as", metavar="NAME", dest="certificate", type=proxied.certificate, default="back-office",
+                        help="the certificate's name whose rule of the door counts, if the settings have\n"
+                        "`proxy` (back-office)")
     parser.add_argument("--name", metavar="NAME", help="the server's name, if it is one of several")
     parser.add_argument("--folder", metavar="FOLDER", help="the server's folder (/var/lib/bovtrila)")
     parser.add_argument("--config", metavar="FILE", help="the server's settings (/etc/bovtrila/serve.conf)")
@@ -182,6 +188,8 @@ class Fares:
                  "--yes", "--far", "--gate", self.asked.gate, "--tries", "6"]
         if self.asked.number is not None:
             words += ["--number", self.asked.number]
+        if "--proxy" in self.words.flags:
+            words += ["--proxy", self.asked.certificate]
         status, out, err = serving.run(words)
         return status == 0, out.partition("  ")[2].strip() or [*err.splitlines(), ""][-2].strip()
 
@@ -196,7 +204,7 @@ class Fares:
             raise Wrong(f"a server with {self.name} would be refused; nothing was changed:\n{wrong}") from None
         if not is_good:
             raise Wrong(f"the server would refuse the revision; nothing was changed:\n{said}")
-        if self.named is None and serving.front_at(self.words["listen"]) is None:
+        if self.named is None and serving.front_of(self.words) is None:
             raise Wrong(f"no server answers at {self.words['listen']}: start it, or see that one of its lines is free, "
                         "and give the same command again; nothing was changed")
         return f"a server with it, on a copy of the journal, said: {said}"
@@ -251,7 +259,7 @@ class Fares:
         if status:
             return f"wasn't started: '{self.asked.restart}' ended with status {status}"
         limit = time.monotonic() + PATIENCE
-        while not serving.has_server(self.journal) or serving.front_at(self.words["listen"]) is None:
+        while not serving.has_server(self.journal) or serving.front_of(self.words) is None:
             if time.monotonic() > limit:
                 return f"didn't answer at {self.words['listen']} for {PATIENCE} seconds"
             time.sleep(0.1)
@@ -259,7 +267,7 @@ class Fares:
 
     def knows(self) -> bool:
         """Whether the running server knows the table. The revision is sent to it, so it may be accepted by this."""
-        if serving.front_at(self.words["listen"]) is None:
+        if serving.front_of(self.words) is None:
             return False
         return UNKNOWN not in self.send(serving.reached_at(self.words["listen"]))[1]
 

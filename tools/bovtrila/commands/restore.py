@@ -276,7 +276,7 @@ class Restoring:
             self.lock.close()
         status, limit = by_shell(self.asked.start), time.monotonic() + PATIENCE
         while not status and time.monotonic() < limit:
-            front = serving.front_at(self.words["listen"]) if serving.has_server(self.journal) else None
+            front = serving.front_of(self.words) if serving.has_server(self.journal) else None
             if front is not None and front >= self.touches:
                 return f"the server at {self.words['listen']} answers, with {front} touches"
             time.sleep(0.1)

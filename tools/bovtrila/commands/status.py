@@ -11,8 +11,9 @@ server's answers don't have. Add --table FILE once for the first table, and once
 server was started. Fare days are worked out with this machine's clock.
 
 The script sends enquiries, and a revision to a table that no server has. A halted server answers the revision with
-fault 3, and no server records it. This changes nothing, and no touch waits. It takes one connection slot for that
-moment. If all slots are taken, the script waits, and reports this. It reads the journal without a lock.
+fault 3, and no server records it. This changes nothing, and no touch waits. A server whose settings name a door isn't
+sent the revision, and its door needs a rule * with enquiries. The script takes one connection slot for that moment. If
+all slots are taken, the script waits, and reports this. It reads the journal without a lock.
 
 "up" is NO, with the reason, if the server doesn't answer, is halted or full, or if the disk is full and the journal
 lacks a part of its whole size: the next touch would halt the server. The time until the journal is full is worked out
@@ -40,7 +41,7 @@ import sys
 import time
 from collections.abc import Callable, Iterable
 
-from bovtrila import serving, wire
+from bovtrila import proxied, serving, wire
 from bovtrila.journal_view import Journal, Tables
 from bovtrila.overview import Found, Target, look, nothing, screen, target_of
 from bovtrila.wire import Wrong
@@ -90,6 +91,7 @@ def options() -> argparse.Namespace:
     parser.add_argument("--name", metavar="NAME", help="show only the server of this name")
     parser.add_argument("--config", metavar="FILE", help="the server's settings (/etc/bovtrila/serve.conf)")
     parser.add_argument("--folder", metavar="FOLDER", help="the server's folder (/var/lib/bovtrila)")
+    parser.add_argument("--proxy", action="store_true", help="with an address: the server has --proxy")
     parser.add_argument("--journal", metavar="FILE", help="with an address: the server's journal, on this machine")
     parser.add_argument("--table", metavar="FILE", action="append", default=[],
                         help="with --journal: a fare table of the server, the first one\nfirst")
@@ -97,6 +99,8 @@ def options() -> argparse.Namespace:
     parser.add_argument("--watch", type=seconds, nargs="?", const=2, metavar="SECONDS", help="show it again and again")
     parser.add_argument("--json", action="store_true", help="print a line of JSON for each server each time")
     asked = parser.parse_args()
+    if asked.proxy and not asked.address:
+        parser.error("--proxy goes with an address; without one the settings have `proxy`")
     if asked.journal and not asked.address:
         parser.error("--journal goes with an address; without one the settings name the journal")
     if asked.table and not asked.journal:
@@ -109,7 +113,8 @@ def options() -> argparse.Namespace:
 def servers(asked: argparse.Namespace) -> list[Server]:
     """The servers that are asked for, as they are found each time."""
     if asked.address:
-        target = Target(None, asked.address, asked.journal, tuple(asked.table), None)
+        header = proxied.WITHOUT if asked.proxy else b""
+        target = Target(None, asked.address, asked.journal, tuple(asked.table), None, None, header)
         return [Server(None, lambda: target)]
     known: list[tuple[str | None, pathlib.Path, pathlib.Path]]
     if asked.name or asked.config or asked.folder:

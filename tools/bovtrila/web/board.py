@@ -11,8 +11,9 @@ from collections.abc import Callable
 from typing import Any, NamedTuple
 
 from bovtrila import condition, settings, wire
+from bovtrila.door_reports import Reports
 from bovtrila.journal_view import Journal, Tables
-from bovtrila.web.facts import Now, Since, answered, now_of, slots_of
+from bovtrila.web.facts import Now, Since, answered, begin_of, now_of, slots_of
 from bovtrila.web.history import Day, Source, Touches, day_of, is_there, program_of, stations_of, touches_of, zone_of
 from bovtrila.web.server import Answer, Refused, number_of, refusal
 from bovtrila.web.statement import Statement, statement_of, words_of
@@ -29,11 +30,13 @@ HTML, CSS = "text/html; charset=utf-8", "text/css; charset=utf-8"
 
 
 class Target(NamedTuple):
-    """A server, as bovtrila-status has it, the number of its slots of connections, if that is known, and its folder."""
+    """A server, as bovtrila-status has it, the number of its slots of connections, if that is known, its folder, and the
+    folder of systemd's journal if that isn't the usual one."""
 
     server: Any
     lines: int | None
     folder: pathlib.Path | None
+    logs: pathlib.Path | None = None
 
 
 class Board:
@@ -48,6 +51,7 @@ class Board:
         self.trouble: str | None = None
         self.target: Target | None = None
         self.journal: Journal | None = None
+        self.reports = Reports(None)
         self.tables, self.pages = Tables(()), Pages(zone_of("UTC0"), stations_of([]), 1)
         self.inside: tuple[int | None, int | None, float] = (None, None, 0.0)
         self.read: tuple[object, ...] = ()
@@ -79,7 +83,7 @@ class Board:
                 tables = Tables(target.server.tables)
                 zone = zone_of(tables.schedule.first.table["zone"] if tables.schedule else "UTC0")
                 self.pages = Pages(zone, stations_of(target.server.tables), max(5, round(3 * self.every)))
-                self.tables, self.target, self.journal = tables, target, None
+                self.tables, self.target, self.journal, self.reports = tables, target, None, Reports(target.logs)
                 self.day, self.read, self.inside = None, (), (None, None, 0.0)
         return target
 
@@ -101,7 +105,13 @@ class Board:
                 slots = slots_of(line.socket, target.lines)
             if self.journal is not None and found["answers"]:
                 found["cards_inside"] = self.count(line, self.journal, found["touches"])
-        self.put(now_of(target.server, self.journal, self.tables, found, self.since, slots, target.folder, now))
+        facts = now_of(target.server, self.journal, self.tables, found, self.since, slots, target.folder, now)
+        # Without an answer, only the settings report whether the server has a door.
+        if target.server.unit and (target.server.has_door or answer["answers"] and answer["halted"] is None):
+            refused = self.reports.read(target.server.unit, begin_of(self.tables, self.tables.day(now), now))
+            unread = self.reports.trouble or "the lines of the server are still being read"
+            facts = dataclasses.replace(facts, refused=refused, unread=None if refused else unread)
+        self.put(facts)
 
     @staticmethod
     def opened(target: Target) -> Journal:

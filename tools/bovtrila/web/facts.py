@@ -14,6 +14,7 @@ from collections.abc import Mapping, Sequence
 from typing import Any, NamedTuple
 
 from bovtrila import condition, due, overview
+from bovtrila.door_reports import Found
 from bovtrila.journal_view import STAFF, Journal, Tables, date, utc
 
 # From how many seconds on a gate's last touch is reported as ahead of this machine's clock.
@@ -71,6 +72,9 @@ class Now:
     warnings: Sequence[str]
     # The moment at which the journal began with the balances of the journal before it, if it did.
     begun: int | None = None
+    # If the server has a door: what that refused today, or why it isn't known.
+    refused: Found | None = None
+    unread: str | None = None
 
 
 def connections(files: Sequence[str] = CONNECTIONS) -> list[tuple[int, int, str]]:
@@ -101,12 +105,15 @@ def slots_of(own: socket.socket, lines: int | None, files: Sequence[str] = CONNE
     return Slots(lines, busy, count - busy)
 
 
+def begin_of(tables: Tables, day: int, now: float) -> int:
+    """The moment at which a fare day begins that is today's or the next one."""
+    first = int(now) - DAYS
+    return first + bisect.bisect_left(range(first, first + 2 * DAYS), day, key=tables.day)
+
+
 def today(journal: Journal, tables: Tables, now: float) -> int:
     """How many touches of cards the journal has of today's fare day. The balances that it began with are none."""
-    day, first = tables.day(now), int(now) - DAYS
-    moments = range(first, first + 2 * DAYS)
-    begin = first + bisect.bisect_left(moments, day, key=tables.day)
-    end = first + bisect.bisect_left(moments, day + 1, key=tables.day)
+    begin, end = (begin_of(tables, tables.day(now) + more, now) for more in (0, 1))
     return sum(begin <= moment < end for moment in itertools.islice(journal.moments, journal.carried.count, None))
 
 

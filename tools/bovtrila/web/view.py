@@ -5,10 +5,11 @@ import zoneinfo
 from collections.abc import Sequence
 from typing import NamedTuple
 
-from bovtrila import day_tally
+from bovtrila import day_tally, door_reports
 from bovtrila.day_charts import COLOURS, Pence, clock, shown
 from bovtrila.day_page import Stations
 from bovtrila.day_tally import QUARTERS
+from bovtrila.door_reports import Found
 from bovtrila.templating import environment
 from bovtrila.web.facts import AHEAD, Now
 from bovtrila.web.history import Day, Touches
@@ -54,6 +55,16 @@ class GateRow(NamedTuple):
     refused: int
     share: int | None
     remarks: Sequence[str]
+
+
+class DoorRow(NamedTuple):
+    """A row of the table of what the door refused."""
+
+    name: str
+    reason: str
+    gate: str
+    times: str
+    at: str
 
 
 class Width(NamedTuple):
@@ -137,6 +148,17 @@ class Pages:
         """A moment by the clock of the zone."""
         return shown(int(moment), self.zone, "%Y-%m-%d %H:%M:%S %Z")
 
+    def door_rows(self, found: Found) -> list[DoorRow]:
+        """What the door refused, the last report first."""
+        rows = [(refused.moment, DoorRow(refused.name, door_reports.REASONS[reason], str(refused.gate or ""),
+                                         f"{refused.times:,}", self.clock(refused.moment)))
+                for (_, reason), refused in found.refused.items()]
+        if found.without_header:
+            # Each line is about one connection or more.
+            rows.append((found.last_without, DoorRow("", "connections without HAProxy's header", "",
+                                                     f"{found.without_header:,} or more", self.clock(found.last_without))))
+        return [row for _, row in sorted(rows, key=lambda each: each[0], reverse=True)]
+
     def station(self, now: Now | None, day: Day | None, trouble: str | None, is_refreshed: bool = True) -> str:
         """The page of the server now and of today."""
         day = day if day and now and day.day == now.day else None
@@ -148,7 +170,8 @@ class Pages:
             refusals=lengths([(name, count, "") for name, count in day.refusals]) if day else [],
             maxima=lengths([(name, count, str(pence)) for name, count, pence in day.maxima]) if day else [],
             at=self.clock(now.moment) if now else None, begun=self.clock(now.begun) if now and now.begun else None,
-            day_at=self.clock(day.moment) if day else None, begins=clock(0))
+            day_at=self.clock(day.moment) if day else None, begins=clock(0),
+            door=self.door_rows(now.refused) if now and now.refused else [])
 
     def card(self, path: str, number: str, found: Statement | Touches | None, fault: str | None,
              command: str | None) -> str:
