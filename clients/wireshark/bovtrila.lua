@@ -53,6 +53,10 @@ local FAULTS = {
     [7] = "NotAllowed",
     -- end: faults
 }
+-- How HAProxy's header begins (the PROXY protocol's version 2), the bytes before its addresses, and those of an address of
+-- each kind; the TLVs of TLS and, in it, of a certificate's common name, which comes behind five bytes.
+local SIGNATURE, FIXED, ADDRESSES = "0D0A0D0A000D0A515549540A", 16, { [0x11] = 12, [0x21] = 36 }
+local SSL, COMMON_NAME, BEFORE_NAME = 0x20, 0x22, 5
 local STATES = { [0] = "vacant", [1] = "outside", [2] = "inside" }
 
 local fields = {
@@ -73,6 +77,8 @@ local fields = {
     state = ProtoField.uint8("bovtrila.state", "State", base.DEC, STATES),
     front = ProtoField.uint32("bovtrila.front", "Front"),
     code = ProtoField.uint8("bovtrila.fault", "Fault", base.DEC, FAULTS),
+    header = ProtoField.bytes("bovtrila.header", "HAProxy's header"),
+    certificate = ProtoField.string("bovtrila.certificate", "Name of the gate's certificate"),
     bad = ProtoField.bytes("bovtrila.bad", "Bytes that begin no frame"),
     response_in = ProtoField.framenum("bovtrila.response_in", "Answer in", base.NONE, frametype.RESPONSE),
     response_to = ProtoField.framenum("bovtrila.response_to", "Request in", base.NONE, frametype.REQUEST),
@@ -130,6 +136,47 @@ local function frame_at(buffer, at, is_request)
         return nil
     end
     return left >= 2 + length and 2 + length or 0
+end
+
+-- The size of HAProxy's header, with which a connection to a server with --proxy begins: 0 for a beginning of one, and nil
+-- where other bytes stand there.
+local function header_at(buffer)
+    local begun = math.min(buffer:len(), SIGNATURE:len() / 2)
+    if buffer(0, begun):bytes():tohex() ~= SIGNATURE:sub(1, 2 * begun) then
+        return nil
+    end
+    local size = buffer:len() >= FIXED and FIXED + buffer(FIXED - 2, 2):uint()
+    return size and size <= buffer:len() and size or 0
+end
+
+-- The value of the first TLV of a kind among these bytes, from a place on. Nil where there is none.
+local function value_of(kind, bytes, at)
+    while at + 3 <= bytes:len() do
+        local size = bytes(at + 1, 2):uint()
+        if at + 3 + size > bytes:len() then
+            return nil
+        elseif bytes(at, 1):uint() == kind and size > 0 then
+            return bytes(at + 3, size)
+        end
+        at = at + 3 + size
+    end
+    return nil
+end
+
+-- Shows HAProxy's header with the name of the gate's certificate. Wireshark itself shows the rest.
+local function add_header(header, packet, root)
+    local tree, said = root:add(bovtrila, header), "PROXY header"
+    tree:add(fields.header, header)
+    local shown = value_of(SSL, header, FIXED + (ADDRESSES[header(FIXED - 3, 1):uint()] or 0))
+    local name = shown and value_of(COMMON_NAME, shown, BEFORE_NAME)
+    if name then
+        tree:add(fields.certificate, name)
+        said = said .. " of " .. name:string()
+    end
+    tree:append_text(", " .. said)
+    DissectorTable.try_heuristics("tcp", header:tvb(), packet, root)
+    packet.cols.protocol = "Bovtrila"
+    return said
 end
 
 -- Notes a request, once: answers come in the order of the requests, and a touch is known by its gate and number. Each
@@ -285,11 +332,24 @@ local function shown_before(packet, more)
     return before
 end
 
+-- Whether the first bytes of a connection's requests are here.
+local function begins_here(packet, before)
+    local connection = connection_of(packet, true)
+    return before == 0 and (connection.first or packet.number) == packet.number
+end
+
 function bovtrila.dissector(buffer, packet, root)
     local at, said, before = 0, {}, shown_before(packet, 0)
     -- The port by which the packet was given to this dissector is the server's, also below TLS.
     local is_request = packet.dst_port == packet.match_uint
     packet.cols.protocol = "Bovtrila"
+    local header = is_request and begins_here(packet, before) and header_at(buffer)
+    if header == 0 then
+        packet.desegment_offset, packet.desegment_len = 0, DESEGMENT_ONE_MORE_SEGMENT
+        return buffer:len()
+    elseif header then
+        said[1], at = add_header(buffer(0, header), packet, root), header
+    end
     while at < buffer:len() do
         local size = frame_at(buffer, at, is_request)
         if size == nil then
@@ -305,6 +365,10 @@ function bovtrila.dissector(buffer, packet, root)
         end
     end
     shown_before(packet, #said)
+    if is_request and #said > 0 then
+        local connection = connection_of(packet, true)
+        connection.first = connection.first or packet.number
+    end
     if #said > 0 and before > 0 then
         packet.cols.info:append("; " .. table.concat(said, "; "))
     elseif #said > 0 then
