@@ -20,6 +20,14 @@ printed_settle_fault UnknownTable = codes "answer 6 UnknownTable"
 printed_settle_fault NotAllowed = codes "answer 7 NotAllowed"
 printed_settle_fault (Tries tries) = codes "tries " ++ decimal tries
 
+-- the fault is the station's answer, and not that there was none
+abbrev pub IsAnswer : SettleFault → Type 0
+IsAnswer Conflict = Unit {0}
+IsAnswer Full = Unit {0}
+IsAnswer UnknownTable = Unit {0}
+IsAnswer NotAllowed = Unit {0}
+IsAnswer (Tries tries) = ⊥
+
 -- an answer of the station that repeats don't change
 abbrev pub last_answer : ℕ → Option SettleFault
 last_answer code =

@@ -24,4 +24,4 @@ pub use fault::{AskFault, ClientFault, FileFault, HearFault, LineFault};
 pub use file::{CARDS, TAG, first_foreign, tag_of};
 pub use laws::{one_file, one_number};
 pub use settling::{Line, SettleFault, Station, settle};
-pub use told::Told;
+pub use told::{GivenUpTold, Told};

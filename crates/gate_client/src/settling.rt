@@ -1,11 +1,13 @@
 //! The settling of the touch that waits: the same bytes over one line after the other, until its
 //! reply is there.
-ghost use Rattle.std.specs.Prelude.{◌≡◌, ◌⊎◌, Some, IsSome, IfSome, IfOk, OnOk, OnErr};
+ghost use Rattle.std.specs.Prelude.{◌≡◌, ◌⊎◌, ◌↔◌, IsTrue, Some, IsSome, IfSome, IfOk, OnOk};
+ghost use Rattle.std.specs.Prelude.{OnErr};
 ghost use Rattle.oyster_account.specs.declared.touch.Touch.{Touch};
 ghost use Rattle.gate_client.specs.Client.{waits_of, answered};
 ghost use Rattle.gate_client.specs.declared.settling.Line.{Line};
 ghost use Rattle.gate_client.specs.Exchange.{HasSettled};
 ghost use Rattle.gate_client.specs.SettleTexts.{printed_settle_fault, last_answer, last_fault};
+ghost use Rattle.gate_client.specs.SettleTexts.{IsAnswer};
 
 use crate::attempt::{TryFault, exchange};
 use crate::{Client, HearFault};
@@ -53,6 +55,16 @@ pub enum SettleFault {
     NotAllowed,
     /// So many tries as were allowed brought no reply.
     Tries(u32),
+}
+
+impl SettleFault {
+    /// Whether the station answers the touch by a fault that repeats don't change, so that the gate
+    /// may give it up.
+    pub fn is_answer(self) -> bool
+        ensures { IsTrue result ↔ IsAnswer self }
+    {
+        !matches!(self, SettleFault::Tries(_))
+    }
 }
 
 /// Prints what stands behind `fault ` in the line of the fault: that it is an answer, by its code

@@ -1,6 +1,6 @@
 //! The line of a reply: the fields of a row of `history` from the gate on.
 ghost use Rattle.std.specs.Prelude.{Some};
-ghost use Rattle.gate_client.specs.Told.{told_text, act_text, verdict_text};
+ghost use Rattle.gate_client.specs.Told.{told_text, given_up_text, act_text, verdict_text};
 
 use oyster_account::{Act, Reply, Touch, verdict_name};
 use std::fmt;
@@ -14,6 +14,14 @@ pub struct Told {
     pub touch: Touch,
     /// What it was answered.
     pub reply: Reply,
+}
+
+/// A touch that was given up. It prints as its line, without a line feed: as a reply's, with
+/// `given-up` in the verdict's place, and without change and balance.
+#[derive(Clone, Copy, Debug, PartialEq, Eq)]
+pub struct GivenUpTold {
+    /// The touch.
+    pub touch: Touch,
 }
 
 /// An act, with its station and its pence, each empty where it has none.
@@ -35,6 +43,16 @@ impl Display for Told {
             f,
             "{gate},{number},{card},{act},{verdict},{change},{balance}"
         )
+    }
+}
+
+impl Display for GivenUpTold {
+    ghost output = { λ told. Some (given_up_text told.touch) };
+
+    fn fmt<W: fmt::Write>(&self, f: &mut fmt::Formatter<W>) -> fmt::Result {
+        let (gate, number, card) = (self.touch.gate, self.touch.number, self.touch.card);
+        let act = ActFields(self.touch.act);
+        write!(f, "{gate},{number},{card},{act},given-up,,")
     }
 }
 
