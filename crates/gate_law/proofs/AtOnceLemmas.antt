@@ -1,13 +1,12 @@
 -- A touch that is settled where nothing goes wrong.
 use Rattle.std.proofs.Common.{◌≡◌, inl, inr, ℕ, true, false, List, [], ◌++◌, length, take, refl, sym, ap, ◌∙◌, subst}
-use Rattle.std.proofs.Common.{append-nil, Some, Result, Ok}
+use Rattle.std.proofs.Common.{append-nil, Some, Result}
 use Rattle.std.specs.Prelude.{IsOk}
 use Rattle.oyster_account.specs.declared.touch.Touch.{Touch}
 use Rattle.oyster_account.specs.declared.reply.Reply.{Reply}
 use Rattle.reply_book.specs.declared.book.Book.{Book}
 use Rattle.reply_book.proofs.PlaceLemmas.{take-front}
 use Rattle.gate_session.specs.declared.request.Request.{Request}
-use Rattle.gate_session.specs.declared.request.Request.TheVariants as requests
 use Rattle.gate_session.specs.declared.answer.Answer.{Answer}
 use Rattle.gate_session.specs.declared.answer.Answer.TheVariants as answers
 use Rattle.gate_session.specs.declared.answer.FaultCode.{FaultCode}

@@ -4,21 +4,19 @@ use Rattle.std.proofs.Common.{refl, sym, ap, ◌∙◌, subst, arith, append-nil
 use Rattle.std.proofs.Common.{is_some}
 use Rattle.std.proofs.Common.{IfOk, IfErr, OnOk, OnErr}
 use Rattle.std.specs.Prelude.{slice_get, IsSome}
-use Rattle.std.proofs.lemmas.Option.{slice_get-get_or}
 use Rattle.oyster_account.specs.declared.touch.Act.{Act}
 use Rattle.oyster_account.specs.declared.touch.Touch.{Touch}
 use Rattle.reply_book.proofs.NameLemmas.{equal}
 use Rattle.tap_disk.specs.declared.disk.Disk.{Ghosts}
 use Rattle.tap_journal.specs.Layout.{Header}
 use Rattle.tap_journal.specs.Image.{WithOrWithout}
-use Rattle.gate_law.specs.Joint.{is_any}
 use Rattle.gate_client.specs.declared.client.Client.{Client}
 use Rattle.gate_client.specs.File.{last_of, next_touch}
 use Rattle.gate_client.specs.Client.{HasAsked, gate_of, waits_of, is_stopped}
 use Rattle.gate_client.specs.Client.{disk_of, header_in}
-use Rattle.gate_law.specs.Whole.{Gate, Whole, with_gate}
+use Rattle.gate_law.specs.Whole.{Gate, Whole, with_gate, IsWaitingAt}
 use Rattle.gate_law.proofs.ViewLemmas.{with-other}
-use Rattle.gate_law.specs.Shown.{IsInFile, IsShownBy, blank}
+use Rattle.gate_law.specs.Shown.{IsInFile, GoesOn, IsShownBy, blank}
 use Rattle.gate_law.specs.ClientRuns.{gone_in}
 
 -- ---- gates
@@ -67,11 +65,6 @@ gone-gate number whole gate =
 
 -- ---- lists of touches
 
--- there is a last one where there is one
-pub is_any-last : (touches : List Touch) → is_any touches ≡ is_some (last_of touches)
-is_any-last [] = refl
-is_any-last (t ∷ ts) = sym (ap is_some (slice_get-get_or (t ∷ ts) (length (t ∷ ts) - 1) t (omega arith)))
-
 -- the last stands behind the others
 pub last-split : (touches : List Touch) (t : Touch) → last_of touches ≡ Some t
     → (earlier : List Touch) × (touches ≡ earlier ++ t ∷ [])
@@ -87,23 +80,15 @@ last-split (x ∷ y ∷ ys) t is =
 
 -- ---- what a crash may leave
 
--- a gate with this file, where a touch waited: it isn't asked for another
-pub left-as : (h : Header) (number : ℕ) (gate other : Gate) (content : List ℕ) → gate.waits ≡ true
-    → other.file ≡ gate.file → IsInFile h number gate content → IsInFile h number other content
-left-as h number gate other content waited same is = elim is.either [
-  | inl all ↦ record {
-    left = is.left;
-    waits = other.waits;
-    either = inl (all.0 ∙ sym same, refl);
-    image = is.image;
-  }
-  | inr more ↦ let no : true ≡ false = sym waited ∙ more.1.none in absurd cc
-]
-
 -- none waits where it isn't so that one does
 pub none-waits : (waits : Option Touch) → (IsSome waits → ⊥) → waits ≡ None
 none-waits None never = refl
 none-waits (Some t) never = absurd (never refl)
+
+-- and there is one where it is so
+pub some-of : {X : Type 0} (waits : Option X) → IsSome waits → (x : X) × (waits ≡ Some x)
+some-of None is = let no : false ≡ true = is in absurd cc
+some-of (Some x) is = (x, refl)
 
 -- what is said of a value that was handed out, and of a fault
 pub when_ok : {T E : Type 0} (P : T → Type 0) (result : Result T E) → IfOk result P → (t : T) → result ≡ Ok t → P t
@@ -132,6 +117,19 @@ pub if_ok : {T E : Type 0} {P : T → Type 0} (result : Result T E) → ((t : T)
 if_ok (Ok x) each = each x
 if_ok (Err fault) each = tt
 
+-- what a giving up that was cut, or failed, may leave
+pub left-given_up : (number : ℕ) (gate : Gate) (touch : Touch) (h : Header) (c : List ℕ) → IsWaitingAt gate touch
+    → WithOrWithout h gate.file touch c → IsInFile h number gate c
+left-given_up number gate touch h c waiting either = elim either [
+  | inl without ↦ record { left = gate.file; waits = gate.waits; either = inl (refl, refl); image = without }
+  | inr with_it ↦ record {
+    left = gate.file ++ touch ∷ [];
+    waits = false;
+    either = inr (inr (touch, waiting, refl, refl));
+    image = with_it;
+  }
+]
+
 module _ {D : Type 0} {g : Ghosts D} where
   -- what a client that goes on has recorded
   pub left-recorded : (number : ℕ) (gate : Gate) (client : Client D g) → HasAsked gate.file client
@@ -153,26 +151,41 @@ module _ {D : Type 0} {g : Ghosts D} where
     | inr with_it ↦ record {
       left = gate.file ++ next_touch (gate_of client) gate.file card act ∷ [];
       waits = true;
-      either = inr (
+      either = inr (inl (
         next_touch (gate_of client) gate.file card act,
         record { none = none; own = own; numbered = refl },
         refl,
         refl,
-      );
+      ));
       image = with_it;
     }
   ]
 
+  -- a client in which a touch waits goes on
+  pub goes-on : (number : ℕ) (gate : Gate) (client : Client D g) (touch : Touch) → IsShownBy number gate client
+      → waits_of client ≡ Some touch → is_stopped client ≡ false
+  goes-on number gate client touch shown waits = by_test (is_stopped client) refl
+    where
+      by_test : (b : Bool) → is_stopped client ≡ b → is_stopped client ≡ false
+      by_test true e = let none : Some touch ≡ None = sym waits ∙ (shown.ended e).none in absurd cc
+      by_test false e = e
+
+  -- it shows a gate that goes on, where its disk hasn't failed
+  pub going-shown : (number : ℕ) (gate : Gate) (client : Client D g) → gate_of client ≡ number
+      → HasAsked gate.file client → GoesOn gate client → is_stopped client ≡ false → IsShownBy number gate client
+  going-shown number gate client is asked goes going = record {
+    number_is = is;
+    asked = asked;
+    goes = λ same. goes;
+    ended = λ stopped. let no : true ≡ false = sym stopped ∙ going in absurd cc;
+    left = λ well c out. left-recorded number gate client asked going well c out;
+  }
+
   -- a client without touches shows a gate that was asked nothing
   pub blank-shown : (number : ℕ) (client : Client D g) → HasAsked [] client → waits_of client ≡ None
       → is_stopped client ≡ false → gate_of client ≡ number → IsShownBy number blank client
-  blank-shown number client asked none going is = record {
-    number_is = is;
-    asked = asked;
-    waits = sym (ap is_some none);
-    going = refl;
-    left = λ well c out. left-recorded number blank client asked going well c out;
-  }
+  blank-shown number client asked none going is =
+      going-shown number blank client is asked (record { going = refl; waits = sym (ap is_some none) }) going
 
   -- what one gate does leaves what the client of another shows
   pub others-shown : (number other : ℕ) (whole : Whole) (gate : Gate) (more : List Touch) (client : Client D g)

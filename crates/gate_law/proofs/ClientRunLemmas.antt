@@ -1,33 +1,51 @@
 -- That each call of a client is a run of its gate's steps.
-use Rattle.std.proofs.Common.{◌≡◌, ◌⊎◌, inl, inr, ℕ, Bool, true, false, List, [], ◌∷◌, ◌++◌, length}
-use Rattle.std.proofs.Common.{refl, sym, ap, ◌∙◌, subst, append-nil, Option, Some, None, Result, Ok, Err, is_some}
-use Rattle.std.proofs.Common.{IfSome, ◌↔◌}
-use Rattle.std.specs.Prelude.{IsErrOf, IsSome}
-use Rattle.oyster_account.specs.declared.touch.Act.{Act}
+use Rattle.std.proofs.Common.{◌≡◌, inl, ℕ, Bool, true, false, List, [], ◌∷◌, ◌++◌, length}
+use Rattle.std.proofs.Common.{refl, sym, ap, ◌∙◌, subst, append-nil, length-append, Option, Some, None, Result, Ok}
+use Rattle.std.proofs.Common.{Err, is_some}
+use Rattle.std.proofs.Common.{IfSome}
 use Rattle.oyster_account.specs.declared.touch.Touch.{Touch}
 use Rattle.oyster_account.specs.declared.reply.Reply.{Reply}
 use Rattle.reply_book.proofs.PlaceLemmas.{slice_get-behind}
+use Rattle.gate_client.proofs.NumberLemmas.{waiting-last}
 use Rattle.tap_disk.specs.declared.disk.Disk.{Ghosts}
 use Rattle.tap_journal.specs.Layout.{Header}
 use Rattle.tap_journal.proofs.OneLemmas.{one_journal}
 use Rattle.gate_session.specs.declared.answer.Answer.TheVariants as answers
-use Rattle.gate_law.specs.Joint.{is_any}
 use Rattle.gate_law.specs.Premises.{Line}
 use Rattle.gate_client.specs.declared.client.Client.{Client}
-use Rattle.gate_client.specs.declared.fault.AskFault.{AskFault}
-use Rattle.gate_client.specs.declared.fault.AskFault.TheVariants as asks_by
 use Rattle.gate_client.specs.declared.fault.HearFault.{HearFault}
 use Rattle.gate_client.specs.declared.fault.HearFault.TheVariants.{NoAnswer, Stray, Refused}
-use Rattle.gate_client.specs.File.{header_by, last_of, next_touch}
-use Rattle.gate_client.specs.Client.{HasAsked, HoldsEither, IsOpened, answered, gate_of, room_of, waits_of, is_stopped}
+use Rattle.gate_client.specs.File.{header_by, waiting_of}
+use Rattle.gate_client.specs.Client.{HasAsked, IsOpened, answered, gate_of, room_of, waits_of, is_stopped}
 use Rattle.gate_client.specs.Client.{disk_of, header_in}
 use Rattle.gate_law.specs.Whole.{Gate, Whole, with_gate, IsWaitingAt}
 use Rattle.gate_law.specs.WholeSteps.{asks, sends, hears, hears_fault, gate_stops, gate_opens}
 use Rattle.gate_law.proofs.ViewLemmas.{with-own}
 use Rattle.gate_law.specs.Shown.{IsInFile, IsShownBy}
+use Rattle.gate_law.proofs.FileLemmas.{own}
 use Rattle.gate_law.specs.ClientRuns.{gone_in, IsClientRun, told_of, refused_of, IsOnLine}
-use Rattle.gate_law.proofs.ClientLemmas.{with-same, with-twice, gone-none, gone-gate, is_any-last, last-split}
-use Rattle.gate_law.proofs.ClientLemmas.{left-as, none-waits, left-recorded, left-either}
+use Rattle.gate_law.proofs.ClientLemmas.{with-same, with-twice, gone-none, gone-gate, last-split}
+use Rattle.gate_law.proofs.ClientLemmas.{goes-on, going-shown}
+
+-- a gate that has ended, and keeps what it had
+abbrev pub ended : Gate → Gate
+ended gate = record {
+  file = gate.file;
+  going = false;
+  waits = gate.waits;
+  told = gate.told;
+  refused = gate.refused;
+}
+
+-- the touch that waits in a client waits in the gate that it shows
+pub waiting-at : {D : Type 0} {g : Ghosts D} (number : ℕ) (gate : Gate) (client : Client D g) (touch : Touch)
+    → IsShownBy number gate client → waits_of client ≡ Some touch → IsWaitingAt gate touch
+waiting-at number gate client touch shown waits =
+    let last : waiting_of gate.file ≡ Some touch =
+    subst (λ (o : Option Touch). IfSome o (λ t. waiting_of gate.file ≡ Some t)) waits shown.asked.last in
+    let split = last-split gate.file touch (waiting-last gate.file touch last).0 in
+    let goes = shown.goes (goes-on number gate client touch shown waits) in
+    record { earlier = split.0; last = split.1; waits = goes.waits ∙ ap is_some waits }
 
 module _ {D : Type 0} {g : Ghosts D} (alone : ℕ → Bool) (cards number : ℕ) (whole : Whole) where
   -- nothing happens in the steps
@@ -43,12 +61,16 @@ module _ {D : Type 0} {g : Ghosts D} (alone : ℕ → Bool) (cards number : ℕ)
   }
 
   -- one touch more was kept
-  asked-run : (old new : Client D g) (touch : Touch) → IsShownBy number (whole.gates number) old
+  pub asked-run : (old new : Client D g) (touch : Touch) → IsShownBy number (whole.gates number) old
       → HasAsked ((whole.gates number).file ++ touch ∷ []) new → waits_of new ≡ Some touch → gate_of new ≡ gate_of old
-      → waits_of old ≡ None → is_stopped new ≡ false → IsClientRun alone cards number whole new [] [] []
-  asked-run old new touch shown asked waits same none going =
+      → waits_of old ≡ None → is_stopped old ≡ false → is_stopped new ≡ false
+      → IsClientRun alone cards number whole new [] [] []
+  asked-run old new touch shown asked waits same none went going =
       let was = whole.gates number in
-      let own = asked.numbered (length was.file) touch (slice_get-behind was.file touch []) in
+      let file : List Touch = was.file ++ touch ∷ [] in
+      let goes = shown.goes went in
+      let last : waiting_of file ≡ Some touch =
+      subst (λ (o : Option Touch). IfSome o (λ t. waiting_of file ≡ Some t)) waits asked.last in
       let gate : Gate = record {
         file = was.file ++ touch ∷ [];
         going = true;
@@ -63,13 +85,45 @@ module _ {D : Type 0} {g : Ghosts D} (alone : ℕ → Bool) (cards number : ℕ)
           asks (record {
             number = number;
             touch = touch;
-            going = shown.going;
+            going = goes.going;
             asked = record {
-              none = shown.waits ∙ ap is_some none;
-              own = own.of_gate ∙ same ∙ shown.number_is;
-              numbered = own.by_place;
+              none = goes.waits ∙ ap is_some none;
+              own = own (gate_of new) file asked.numbered (length was.file) touch
+                  (slice_get-behind was.file touch []) ∙ same ∙ shown.number_is;
+              numbered = (waiting-last file touch last).1 ∙ length-append was.file (touch ∷ []);
             };
             is = gone-gate number whole gate;
+          }),
+          refl,
+        );
+        told_is = sym (append-nil was.told);
+        refused_is = sym (append-nil was.refused);
+        shown = going-shown number gate new (same ∙ shown.number_is) asked
+            (record { going = refl; waits = sym (ap is_some waits) }) going;
+      }
+
+  -- the disk failed, and what a crash leaves of it is what it may leave of the gate
+  pub failed-run : (old new : Client D g) → IsShownBy number (whole.gates number) old
+      → HasAsked (whole.gates number).file new → waits_of new ≡ None → is_stopped new ≡ true
+      → gate_of new ≡ gate_of old → room_of new ≡ room_of old
+      → ((c : List ℕ) → g.honest (disk_of new) → g.outcome (disk_of new) c
+      → IsInFile (header_in old) number (ended (whole.gates number)) c)
+      → IsClientRun alone cards number whole new [] [] []
+  failed-run old new shown asked none stopped same room left =
+      let was = whole.gates number in
+      let last = ended was in
+      let header : header_in old ≡ header_in new =
+      ap (λ (n : ℕ). header_by n (room_of old)) (sym same) ∙ ap (header_by (gate_of new)) (sym room) in
+      record {
+        gate = last;
+        between = gone_in number whole last [] ∷ [];
+        run = (
+          gate_stops (record {
+            number = number;
+            left = was.file;
+            waits = was.waits;
+            either = inl (refl, refl);
+            is = gone-gate number whole last;
           }),
           refl,
         );
@@ -78,42 +132,22 @@ module _ {D : Type 0} {g : Ghosts D} (alone : ℕ → Bool) (cards number : ℕ)
         shown = record {
           number_is = same ∙ shown.number_is;
           asked = asked;
-          waits = sym (ap is_some waits);
-          going = refl;
-          left = λ well c out. left-recorded number gate new asked going well c out;
+          goes = λ going. let no : true ≡ false = sym stopped ∙ going in absurd cc;
+          ended = λ is. record { ended = refl; none = none };
+          left = λ well c out. subst (λ (h : Header). IsInFile h number last c) header (left c well out);
         };
       }
 
-  -- the disk failed
-  failed-run : (old new : Client D g) (card : ℕ) (act : Act) → IsShownBy number (whole.gates number) old
-      → HasAsked (whole.gates number).file new → waits_of new ≡ waits_of old → waits_of old ≡ None
-      → gate_of new ≡ gate_of old → room_of new ≡ room_of old
-      → HoldsEither g.content g.outcome g.honest (header_in old) (whole.gates number).file
-      (next_touch (gate_of old) (whole.gates number).file card act) (disk_of new)
-      → IsClientRun alone cards number whole new [] [] []
-  failed-run old new card act shown asked waits none same room either =
-      let was = whole.gates number in
-      let header : header_in old ≡ header_in new =
-      ap (λ (n : ℕ). header_by n (room_of old)) (sym same) ∙ ap (header_by (gate_of new)) (sym room) in
-      idle-run new (record {
-        number_is = same ∙ shown.number_is;
-        asked = asked;
-        waits = shown.waits ∙ ap is_some (sym waits);
-        going = shown.going;
-        left = λ well c out.
-            subst (λ (h : Header). IsInFile h number was c) header
-            (left-either number was old (header_in old) card act c shown.number_is (shown.waits ∙ ap is_some none)
-            (either.left well c out));
-      })
-
   -- the touch that waits
-  waiting : (client : Client D g) (touch : Touch) → IsShownBy number (whole.gates number) client
+  pub waiting : (client : Client D g) (touch : Touch) → IsShownBy number (whole.gates number) client
       → waits_of client ≡ Some touch → IsWaitingAt (whole.gates number) touch
-  waiting client touch shown waits =
-      let last : last_of (whole.gates number).file ≡ Some touch =
-      subst (λ (o : Option Touch). IfSome o (λ t. last_of (whole.gates number).file ≡ Some t)) waits shown.asked.last in
-      let split = last-split (whole.gates number).file touch last in
-      record { earlier = split.0; last = split.1; waits = shown.waits ∙ ap is_some waits }
+  waiting client touch = waiting-at number (whole.gates number) client touch
+
+  -- its gate goes on
+  goes : (client : Client D g) (touch : Touch) → IsShownBy number (whole.gates number) client
+      → waits_of client ≡ Some touch → (whole.gates number).going ≡ true
+  goes client touch shown waits =
+      (shown.goes (goes-on number (whole.gates number) client touch shown waits)).going
 
   -- its frame was written
   pub sent-run : (client : Client D g) (touch : Touch) → IsShownBy number (whole.gates number) client
@@ -127,7 +161,7 @@ module _ {D : Type 0} {g : Ghosts D} (alone : ℕ → Bool) (cards number : ℕ)
           sends (record {
             number = number;
             touch = touch;
-            going = shown.going;
+            going = goes client touch shown waits;
             waiting = waiting client touch shown waits;
             is = ap (λ (gates : ℕ → Gate). record whole { gates = gates; sent = whole.sent ++ touch ∷ [] })
                 (with-same whole.gates number);
@@ -162,7 +196,7 @@ module _ {D : Type 0} {g : Ghosts D} (alone : ℕ → Bool) (cards number : ℕ)
             number = number;
             touch = touch;
             reply = reply;
-            going = shown.going;
+            going = goes old touch shown waits;
             waiting = at;
             line = line;
             is = gone-gate number whole gate;
@@ -171,16 +205,9 @@ module _ {D : Type 0} {g : Ghosts D} (alone : ℕ → Bool) (cards number : ℕ)
         );
         told_is = refl;
         refused_is = sym (append-nil was.refused);
-        shown = record {
-          number_is = ap (λ (c : Client D g). gate_of c) answered_is ∙ shown.number_is;
-          asked = asked;
-          waits = sym (ap (λ (c : Client D g). is_some (waits_of c)) answered_is);
-          going = refl;
-          left = subst (λ (c : Client D g). g.honest (disk_of c) → (content : List ℕ)
-              → g.outcome (disk_of c) content → IsInFile (header_in c) number gate content) (sym answered_is)
-              (λ well content out.
-              left-as (header_in old) number was gate content at.waits refl (shown.left well content out));
-        };
+        shown = going-shown number gate new (ap (λ (c : Client D g). gate_of c) answered_is ∙ shown.number_is) asked
+            (record { going = refl; waits = sym (ap (λ (c : Client D g). is_some (waits_of c)) answered_is) })
+            (ap (λ (c : Client D g). is_stopped c) answered_is ∙ goes-on number was old touch shown waits);
       }
 
   -- a fault was read
@@ -205,7 +232,7 @@ module _ {D : Type 0} {g : Ghosts D} (alone : ℕ → Bool) (cards number : ℕ)
             number = number;
             touch = touch;
             code = code;
-            going = shown.going;
+            going = goes client touch shown waits;
             waiting = at;
             line = line;
             is = gone-gate number whole gate;
@@ -214,14 +241,8 @@ module _ {D : Type 0} {g : Ghosts D} (alone : ℕ → Bool) (cards number : ℕ)
         );
         told_is = sym (append-nil was.told);
         refused_is = refl;
-        shown = record {
-          number_is = shown.number_is;
-          asked = shown.asked;
-          waits = sym at.waits ∙ shown.waits;
-          going = refl;
-          left = λ well content out.
-              left-as (header_in client) number was gate content at.waits refl (shown.left well content out);
-        };
+        shown = going-shown number gate client shown.number_is shown.asked
+            (record { going = refl; waits = sym (ap is_some waits) }) (goes-on number was client touch shown waits);
       }
 
   -- whatever was read
@@ -261,7 +282,7 @@ module _ {D : Type 0} {g : Ghosts D} (alone : ℕ → Bool) (cards number : ℕ)
       let gate : Gate = record {
         file = opened.asked;
         going = true;
-        waits = is_any opened.asked;
+        waits = is_some (waiting_of opened.asked);
         told = was.told;
         refused = was.refused;
       } in
@@ -290,7 +311,7 @@ module _ {D : Type 0} {g : Ghosts D} (alone : ℕ → Bool) (cards number : ℕ)
                     gates = with_gate (with_gate whole.gates number stopped) number (record {
                       file = opened.asked;
                       going = true;
-                      waits = is_any opened.asked;
+                      waits = is_some (waiting_of opened.asked);
                       told = x.told;
                       refused = x.refused;
                     });
@@ -301,57 +322,6 @@ module _ {D : Type 0} {g : Ghosts D} (alone : ℕ → Bool) (cards number : ℕ)
         );
         told_is = sym (append-nil was.told);
         refused_is = sym (append-nil was.refused);
-        shown = record {
-          number_is = opened.gate_is;
-          asked = opened.has;
-          waits = is_any-last opened.asked ∙ sym (ap is_some opened.waits);
-          going = refl;
-          left = λ honest c out. left-recorded number gate client opened.has going honest c out;
-        };
+        shown = going-shown number gate client opened.gate_is opened.has
+            (record { going = refl; waits = sym (ap is_some opened.waits) }) going;
       }
-
-  -- whatever came of an asking
-  pub record Asked (old new : Client D g) (card : ℕ) (act : Act) (result : Result Touch AskFault) : Type 0 where
-    pub ok : (t : Touch) → result ≡ Ok t → HasAsked ((whole.gates number).file ++ t ∷ []) new
-    pub waits : (t : Touch) → result ≡ Ok t → waits_of new ≡ Some t
-    pub kept : (fault : AskFault) → result ≡ Err fault → HasAsked (whole.gates number).file new
-    pub waits_on : (fault : AskFault) → result ≡ Err fault → waits_of new ≡ waits_of old
-    pub gate_is : gate_of new ≡ gate_of old
-    pub room_is : room_of new ≡ room_of old
-    pub either : IsErrOf result asks_by.Device
-        → HoldsEither g.content g.outcome g.honest (header_in old) (whole.gates number).file
-        (next_touch (gate_of old) (whole.gates number).file card act) (disk_of new)
-    pub waiting_is : IsErrOf result asks_by.Waiting ↔ IsSome (waits_of old)
-    pub stopped : IsErrOf result asks_by.Stopped ↔ ((waits_of old ≡ None) × (is_stopped old ≡ true))
-    pub stops : (is_stopped new ≡ true) ↔ ((is_stopped old ≡ true) ⊎ IsErrOf result asks_by.Device)
-    pub no_call : (fault : AskFault) → result ≡ Err fault → (fault ≡ asks_by.Device → ⊥) → new ≡ old
-
-  goes-on : (old new : Client D g) (card : ℕ) (act : Act) (t : Touch) → waits_of old ≡ None
-      → Asked old new card act (Ok t) → (b : Bool) → is_stopped new ≡ b → is_stopped new ≡ false
-  goes-on old new card act t none by true e = elim (by.stops.0 e) [
-    | inl was ↦ let no = by.stopped.1 (none, was) in absurd cc
-    | inr failed ↦ let no = failed in absurd cc
-  ]
-  goes-on old new card act t none by false e = e
-
-  same-run : (old new : Client D g) → IsShownBy number (whole.gates number) old → new ≡ old
-      → IsClientRun alone cards number whole new [] [] []
-  same-run old new shown same = idle-run new (subst (IsShownBy number (whole.gates number)) (sym same) shown)
-
-  pub asks-run : (old new : Client D g) (card : ℕ) (act : Act) (result : Result Touch AskFault)
-      → IsShownBy number (whole.gates number) old → Asked old new card act result
-      → IsClientRun alone cards number whole new [] [] []
-  asks-run old new card act (Ok t) shown by =
-      let none = none-waits (waits_of old) (λ some. let no = by.waiting_is.1 some in absurd cc) in
-      asked-run old new t shown (by.ok t refl) (by.waits t refl) by.gate_is none
-      (goes-on old new card act t none by (is_stopped new) refl)
-  asks-run old new card act (Err asks_by.Device) shown by =
-      let none = none-waits (waits_of old) (λ some. let no = by.waiting_is.1 some in absurd cc) in
-      failed-run old new card act shown (by.kept asks_by.Device refl) (by.waits_on asks_by.Device refl) none by.gate_is
-      by.room_is (by.either refl)
-  asks-run old new card act (Err asks_by.Waiting) shown by =
-      same-run old new shown (by.no_call asks_by.Waiting refl (λ e. absurd cc))
-  asks-run old new card act (Err asks_by.Stopped) shown by =
-      same-run old new shown (by.no_call asks_by.Stopped refl (λ e. absurd cc))
-  asks-run old new card act (Err asks_by.Full) shown by =
-      same-run old new shown (by.no_call asks_by.Full refl (λ e. absurd cc))

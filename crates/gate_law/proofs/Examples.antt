@@ -1,7 +1,7 @@
 -- What is no step: each would be a wrong step of a gate, of its station, of another gate or of a crash. The first ones
 -- are on states of the run in RunExamples and others, those of all gates on states of the run in WholeExamples.
 use Rattle.std.proofs.Common.{◌≡◌, ℕ, zero, suc, true, false, Some, [], ◌∷◌, get_or, refl, sym, ap, ◌∙◌, arith, inl}
-use Rattle.std.proofs.Common.{inr, ◌==◌, Bool, cond}
+use Rattle.std.proofs.Common.{inr, ◌==◌, Bool, cond, List, is_some}
 use Rattle.std.specs.Prelude.{Contains, slice_get}
 use Rattle.oyster_account.specs.declared.touch.Touch.{Touch}
 use Rattle.oyster_account.specs.declared.reply.Reply.{Reply}
@@ -10,9 +10,10 @@ use Rattle.reply_book.specs.Tables.{Tables}
 use Rattle.reply_book.specs.Legal.{touches_of, judge_after, book}
 use Rattle.gate_session.specs.declared.answer.Answer.{Answer}
 use Rattle.gate_session.specs.declared.answer.Answer.TheVariants as answers
-use Rattle.gate_law.specs.Joint.{Joint, is_any}
-use Rattle.gate_law.specs.Steps.{Asks, OthersSend, Enters, Hears, Opens, Restarts}
-use Rattle.gate_law.proofs.ListLemmas.{placed, contains-none}
+use Rattle.gate_client.specs.File.{waiting_of}
+use Rattle.gate_law.specs.Joint.{Joint}
+use Rattle.gate_law.specs.Steps.{Asks, OthersSend, Enters, Hears, GivesUp, Opens, Restarts}
+use Rattle.gate_law.proofs.ListLemmas.{placed, contains-none, push-both}
 use Rattle.gate_law.proofs.RunExamples.{issue, issued, issued_before, first, second, strange, entry, judged, answer}
 use Rattle.gate_law.proofs.RunExamples.{differ, start, asked, sent, head, on_literals}
 use Rattle.reply_book.proofs.NameLemmas.{equal}
@@ -70,7 +71,29 @@ module _ (tables : Tables) where
   -- where there is a touch, the last waits after an opening
   no_idle_opening : Opens (asked tables tables) (record (asked tables tables) { waits = false }) → ⊥
   no_idle_opening a =
-      let no : false ≡ true = ap (λ (s : Joint). s.waits) a.is ∙ ap is_any a.one_journal in
+      let no : false ≡ true = ap (λ (s : Joint). s.waits) a.is
+      ∙ ap (λ (l : List Touch). is_some (waiting_of l)) a.one_journal in
+      absurd cc
+
+  -- no other touch is given up than the one that waits
+  no_giving_up_of_another : GivesUp (asked tables tables) (record (asked tables tables) {
+    asked = first ∷ second ∷ [];
+    waits = false;
+  }) → ⊥
+  no_giving_up_of_another a =
+      let same : second ≡ a.touch = ap (λ (s : Joint). get_or s.asked 1 second) a.is in
+      let last : first ≡ a.touch = (push-both [] a.waited.earlier first a.touch a.waited.last).1 in
+      differ 1 2 (omega arith) (ap (λ (t : Touch). t.number) (same ∙ sym last))
+
+  -- the first touch was given up
+  abbrev given_up : Joint
+  given_up = record (asked tables tables) { asked = first ∷ first ∷ []; waits = false }
+
+  -- what was given up doesn't wait after an opening
+  no_second_waiting : Opens given_up (record given_up { waits = true }) → ⊥
+  no_second_waiting a =
+      let no : true ≡ false = ap (λ (s : Joint). s.waits) a.is
+      ∙ ap (λ (l : List Touch). is_some (waiting_of l)) a.one_journal in
       absurd cc
 
   -- an opening finds what was kept
@@ -117,11 +140,28 @@ no_other_tables old new a = ap (λ (s : Joint). book s.tables 10 (touches_of old
 
 -- ---- all gates
 
+-- a gate that has its first touch's reply
+abbrev answered : Gate
+answered = record { file = first ∷ []; going = true; waits = false; told = judged first issued ∷ []; refused = [] }
+
 -- a crash takes no touch from a gate's file: what was handed out is left, or one more
 no_lost_touch : IsLeftOf 7 (waiting (first ∷ [])) [] true → ⊥
 no_lost_touch left = elim left [
   | inl same ↦ let no : [] ≡ first ∷ [] = same.0 in absurd cc
-  | inr more ↦ let no : true ≡ false = more.1.none in absurd cc
+  | inr other ↦ elim other [
+    | inl more ↦ let no : true ≡ false = more.1.none in absurd cc
+    | inr up ↦ let no : [] ≡ first ∷ up.0 ∷ [] = up.2 in absurd cc
+  ]
+]
+
+-- and it gives up none that doesn't wait
+no_giving_up_in_a_crash : IsLeftOf 7 answered (first ∷ first ∷ []) false → ⊥
+no_giving_up_in_a_crash left = elim left [
+  | inl same ↦ let no : first ∷ first ∷ [] ≡ first ∷ [] = same.0 in absurd cc
+  | inr other ↦ elim other [
+    | inl more ↦ let no : false ≡ true = more.3 in absurd cc
+    | inr up ↦ let no : false ≡ true = up.1.waits in absurd cc
+  ]
 ]
 
 -- nor from a station's journal
@@ -165,7 +205,7 @@ module _ (tables : Tables) where
       opened = record {
         file = a.kept;
         going = true;
-        waits = is_any a.kept;
+        waits = is_some (waiting_of a.kept);
         told = ((wholes.asked tables).gates a.number).told;
         refused = ((wholes.asked tables).gates a.number).refused;
       }
@@ -178,8 +218,41 @@ module _ (tables : Tables) where
       by_test true e =
           let kept : a.kept ≡ first ∷ [] =
           a.one_journal ∙ ap (λ (n : ℕ). ((wholes.asked tables).gates n).file) (sym (equal 7 a.number e)) in
-          let no : false ≡ true = at true e ∙ ap is_any kept in absurd cc
+          let no : false ≡ true = at true e ∙ ap (λ (l : List Touch). is_some (waiting_of l)) kept in absurd cc
       by_test false e = let no : false ≡ true = at false e in absurd cc
+
+  -- and a gate that has given up its touch lets none wait either
+  abbrev gone : Gate
+  gone = record { file = first ∷ first ∷ []; going = true; waits = false; told = []; refused = [] }
+
+  abbrev gave_up : Whole
+  gave_up = record (wholes.asked tables) { gates = with_gate (wholes.asked tables).gates 7 gone }
+
+  abbrev opened_waiting : Whole
+  opened_waiting = record gave_up { gates = with_gate gave_up.gates 7 (waiting (first ∷ first ∷ [])) }
+
+  no_waiting_gate : GateOpens gave_up opened_waiting → ⊥
+  no_waiting_gate a = by_test (7 == a.number) refl
+    where
+      opened : Gate
+      opened = record {
+        file = a.kept;
+        going = true;
+        waits = is_some (waiting_of a.kept);
+        told = (gave_up.gates a.number).told;
+        refused = (gave_up.gates a.number).refused;
+      }
+
+      at : (b : Bool) → (7 == a.number) ≡ b → true ≡ (cond b opened (gave_up.gates 7)).waits
+      at b e = ap (λ (w : Whole). (w.gates 7).waits) a.is
+          ∙ ap (λ (c : Bool). (cond c opened (gave_up.gates 7)).waits) e
+
+      by_test : (b : Bool) → (7 == a.number) ≡ b → ⊥
+      by_test true e =
+          let kept : a.kept ≡ first ∷ first ∷ [] =
+          a.one_journal ∙ ap (λ (n : ℕ). (gave_up.gates n).file) (sym (equal 7 a.number e)) in
+          let no : true ≡ false = at true e ∙ ap (λ (l : List Touch). is_some (waiting_of l)) kept in absurd cc
+      by_test false e = let no : true ≡ false = at false e in absurd cc
 
   -- a fault that nobody wrote isn't heard
   no_unwritten_fault : (new : Whole) → HearsFault (wholes.sent tables) new → ⊥

@@ -1,9 +1,9 @@
 -- Which step each call of a client is.
-use Rattle.std.proofs.Common.{◌≡◌, inl, inr, ℕ, suc, ◌-◌, true, List, [], ◌∷◌, ◌++◌, length, Option, Some, IfSome}
-use Rattle.std.proofs.Common.{is_some, refl, sym, ap, ◌∙◌, subst, append-nil, arith}
+use Rattle.std.proofs.Common.{◌≡◌, inl, inr, ℕ, suc, ◌-◌, true, false, List, [], ◌∷◌, ◌++◌, length, Option, Some}
+use Rattle.std.proofs.Common.{IfSome}
+use Rattle.std.proofs.Common.{is_some, refl, sym, ap, ◌∙◌, subst, append-nil, length-append, arith}
 use Rattle.std.specs.Prelude.{slice_get}
 use Rattle.std.proofs.lemmas.List.Elements.{All-nil, All-cons}
-use Rattle.std.proofs.lemmas.Option.{slice_get-get_or}
 use Rattle.oyster_account.specs.declared.touch.Touch.{Touch}
 use Rattle.oyster_account.specs.Touch.{Fits}
 use Rattle.tap_disk.specs.declared.disk.Disk.{Ghosts}
@@ -12,21 +12,17 @@ use Rattle.tap_journal.proofs.OneLemmas.{one_journal}
 use Rattle.gate_session.specs.declared.request.Request.TheVariants as requests
 use Rattle.gate_session.specs.Frames.{RequestFits}
 use Rattle.gate_client.specs.declared.client.Client.{Client}
-use Rattle.gate_client.specs.File.{header_by, last_of, next_touch}
+use Rattle.gate_client.specs.File.{header_by, last_of, waiting_of, next_touch}
 use Rattle.gate_client.specs.Client.{HasAsked, gate_of, room_of, waits_of}
 use Rattle.gate_client.specs.Heard.{frame_of}
-use Rattle.gate_client.proofs.NumberLemmas.{slice_get-pushed}
-use Rattle.gate_law.specs.Joint.{Joint, is_any, IsWaiting}
+use Rattle.gate_client.proofs.NumberLemmas.{slice_get-pushed, waiting-last}
+use Rattle.gate_law.specs.Joint.{Joint, IsWaiting}
+use Rattle.gate_law.proofs.FileLemmas.{own}
 use Rattle.gate_law.specs.Gate.{IsGateOf}
-use Rattle.gate_law.specs.Calls.{AreWritten, IsAsking, IsSending, IsSendingInPart, IsHearing, IsOpening}
-use Rattle.gate_law.specs.Calls.{IsOpeningAfterAsking}
+use Rattle.gate_law.specs.Calls.{AreWritten, IsAsking, IsSending, IsSendingInPart, IsHearing, IsGivingUp}
+use Rattle.gate_law.specs.Calls.{IsOpening, IsOpeningAfterAsking, IsOpeningAfterGivingUp}
 
 -- ---- lists of touches
-
--- there is a last one where there is one
-is_any-last : (touches : List Touch) → is_any touches ≡ is_some (last_of touches)
-is_any-last [] = refl
-is_any-last (t ∷ ts) = sym (ap is_some (slice_get-get_or (t ∷ ts) (length (t ∷ ts) - 1) t (omega arith)))
 
 -- the last stands behind the others
 pub last-split : (touches : List Touch) (t : Touch) → last_of touches ≡ Some t
@@ -68,20 +64,23 @@ module _ {D : Type 0} {g : Ghosts D} where
   pub waiting : (gate : ℕ) (s : Joint) (client : Client D g) (touch : Touch) → IsGateOf gate s client
       → waits_of client ≡ Some touch → IsWaiting s touch
   waiting gate s client touch shows waits =
-      let last : last_of s.asked ≡ Some touch =
-      subst (λ (o : Option Touch). IfSome o (λ t. last_of s.asked ≡ Some t)) waits shows.asked.last in
-      let split = last-split s.asked touch last in
+      let last : waiting_of s.asked ≡ Some touch =
+      subst (λ (o : Option Touch). IfSome o (λ t. waiting_of s.asked ≡ Some t)) waits shows.asked.last in
+      let split = last-split s.asked touch (waiting-last s.asked touch last).0 in
       record { earlier = split.0; last = split.1; waits = shows.waits ∙ ap is_some waits }
 
   pub asks : (old new : Client D g) → IsAsking old new
   asks old new gate s touch shows kept =
-      let own = kept.kept.numbered (length s.asked) touch (slice_get-pushed s.asked touch) in
+      let asked : List Touch = s.asked ++ touch ∷ [] in
+      let last : waiting_of asked ≡ Some touch =
+      subst (λ (o : Option Touch). IfSome o (λ t. waiting_of asked ≡ Some t)) kept.waits kept.kept.last in
       record {
         is = record {
           touch = touch;
           none = shows.waits ∙ ap is_some kept.none;
-          own = own.of_gate ∙ kept.gate ∙ shows.number;
-          number = own.by_place;
+          own = own (gate_of new) asked kept.kept.numbered (length s.asked) touch (slice_get-pushed s.asked touch)
+              ∙ kept.gate ∙ shows.number;
+          number = (waiting-last asked touch last).1 ∙ length-append s.asked (touch ∷ []);
           is = refl;
         };
         shown = record {
@@ -128,6 +127,16 @@ module _ {D : Type 0} {g : Ghosts D} where
     };
   }
 
+  pub gives_up : (old new : Client D g) → IsGivingUp old new
+  gives_up old new gate s touch shows up = record {
+    is = record { touch = touch; waited = waiting gate s old touch shows up.waited; is = refl };
+    shown = record {
+      number = up.gate ∙ shows.number;
+      asked = up.kept;
+      waits = sym (ap is_some up.none);
+    };
+  }
+
   pub opens : (client : Client D g) → IsOpening client
   opens client gate capacity s content image honest opened =
       let same = one_file gate (gate_of client) capacity (room_of client) s.asked opened.asked content image
@@ -137,7 +146,7 @@ module _ {D : Type 0} {g : Ghosts D} where
         shown = record {
           number = opened.gate_is;
           asked = subst (λ (l : List Touch). HasAsked l client) (sym same) opened.has;
-          waits = ap is_any same ∙ is_any-last opened.asked ∙ sym (ap is_some opened.waits);
+          waits = ap (λ (l : List Touch). is_some (waiting_of l)) same ∙ sym (ap is_some opened.waits);
         };
       }
 
@@ -155,3 +164,16 @@ module _ {D : Type 0} {g : Ghosts D} where
               with_it) honest opened,
         )
       ]
+
+  pub opens-given_up : (old client : Client D g) → IsOpeningAfterGivingUp old client
+  opens-given_up old client gate s touch content shows waits either honest opened = elim either [
+    | inl without ↦
+        inl (opens client gate (room_of old) s content
+        (subst (λ (n : ℕ). Image (header_by n (room_of old)) s.asked content) shows.number without) honest opened)
+    | inr with_it ↦ inr (
+      record { touch = touch; waited = waiting gate s old touch shows waits; is = refl },
+      opens client gate (room_of old) (record s { asked = s.asked ++ touch ∷ []; waits = false }) content
+          (subst (λ (n : ℕ). Image (header_by n (room_of old)) (s.asked ++ touch ∷ []) content) shows.number
+          with_it) honest opened,
+    )
+  ]

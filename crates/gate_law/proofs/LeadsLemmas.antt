@@ -1,27 +1,28 @@
 -- What each step of a whole is for one gate and the station.
-use Rattle.std.proofs.Common.{◌≡◌, inl, inr, ℕ, ◌==◌, Bool, true, false, List, [], ◌∷◌, ◌++◌, length, refl, sym, ap}
-use Rattle.std.proofs.Common.{◌∙◌, subst}
-use Rattle.std.specs.Prelude.{Contains, slice_get}
+use Rattle.std.proofs.Common.{◌≡◌, inl, inr, ℕ, ◌==◌, Bool, true, false, List, [], ◌∷◌, ◌++◌, refl, sym, ap}
+use Rattle.std.proofs.Common.{◌∙◌, subst, is_some}
+use Rattle.std.specs.Prelude.{Contains}
 use Rattle.oyster_account.specs.declared.touch.Touch.{Touch}
+use Rattle.oyster_account.specs.declared.reply.Judged.{Judged}
 use Rattle.reply_book.specs.declared.entry.Entry.{Entry}
 use Rattle.reply_book.specs.Legal.{IsLegal, history_of, touches_of}
-use Rattle.reply_book.proofs.PlaceLemmas.{slice_get-behind}
 use Rattle.reply_book.proofs.NameLemmas.{equal, equal-refl}
 use Rattle.gate_session.specs.declared.answer.Answer.{Answer}
 use Rattle.gate_session.specs.declared.answer.Answer.TheVariants as answers
 use Rattle.gate_session.specs.Answers.{fault_code}
-use Rattle.gate_law.specs.Joint.{Joint, is_any}
+use Rattle.gate_client.specs.File.{waiting_of}
+use Rattle.gate_law.specs.Joint.{Joint}
 use Rattle.gate_law.specs.Steps.{is_reply}
 use Rattle.gate_law.specs.Whole.{Gate, Whole, view_by, view_of, IsWaitingAt}
 use Rattle.gate_law.specs.WholeSteps.{Asks, Sends, OthersSend, Enters, Answers, Hears, HearsFault}
-use Rattle.gate_law.specs.WholeSteps.{GateStops, GateOpens, StationOpens, IsOfNoTouch}
+use Rattle.gate_law.specs.WholeSteps.{GivesUp, GateStops, GateOpens, StationOpens, IsOfNoTouch}
 use Rattle.gate_law.specs.WholeSteps.{Step, asks, sends, others_send, hears, hears_fault}
-use Rattle.gate_law.specs.WholeSteps.{gate_stops, gate_opens, enters, replies, refuses, tells, station_stops}
+use Rattle.gate_law.specs.WholeSteps.{gives_up, gate_stops, gate_opens, enters, replies, refuses, tells, station_stops}
 use Rattle.gate_law.specs.WholeSteps.{station_opens}
 use Rattle.gate_law.specs.WholeAgreement.{LeadsTo}
 use Rattle.gate_law.proofs.ViewLemmas.{stay, by_step, by_two, by_gate}
 use Rattle.gate_law.proofs.OpeningLemmas.{pushed-of, legal-earlier, lock-last, new-last}
-use Rattle.gate_law.proofs.StandsLemmas.{Stands}
+use Rattle.gate_law.proofs.StandsLemmas.{Stands, waiting-own}
 
 of_no_touch : (answer : Answer) → IsOfNoTouch answer → is_reply answer ≡ false
 of_no_touch (answers.Reply gate number reply) none = absurd none
@@ -29,13 +30,6 @@ of_no_touch (answers.Holding view front) none = refl
 of_no_touch (answers.Fault code gate number) none = refl
 
 module _ (alone : ℕ → Bool) (cards : ℕ) (old new : Whole) (h : Stands old) where
-  -- the touch that waits is of its gate
-  pub waiting-own : (number : ℕ) (touch : Touch) → IsWaitingAt (old.gates number) touch → touch.gate ≡ number
-  waiting-own number touch waiting =
-      h.own number (length waiting.earlier) touch
-      (ap (λ (l : List Touch). slice_get l (length waiting.earlier)) waiting.last
-      ∙ slice_get-behind waiting.earlier touch [])
-
   leads-asks : (a : Asks old new) (other : ℕ) → LeadsTo other cards (view_of other old) (view_of other new)
   leads-asks a =
       let gate : Gate = record {
@@ -74,7 +68,7 @@ module _ (alone : ℕ → Bool) (cards : ℕ) (old new : Whole) (h : Stands old)
           by_step other cards (view_of other old) (view_of other new) (inr (inr (inl (record {
             touch = a.touch;
             alone = λ own.
-                let same : other ≡ a.number = sym own ∙ waiting-own a.number a.touch a.waiting in
+                let same : other ≡ a.number = sym own ∙ waiting-own old h a.number a.touch a.waiting in
                 let tested : (other == a.number) ≡ true =
                 subst (λ (n : ℕ). (other == n) ≡ true) same (equal-refl other) in
                 let no : true ≡ false = sym tested ∙ e in absurd cc;
@@ -132,6 +126,34 @@ module _ (alone : ℕ → Bool) (cards : ℕ) (old new : Whole) (h : Stands old)
       ap (λ (l : List Touch). record s { asked = l; waits = waits }) same
       ∙ ap (λ (b : Bool). record s { asked = others; waits = b }) is
 
+  -- a gate's file with the touch that waits once more
+  leads-up : (number : ℕ) (gate : Gate) (touch : Touch) → IsWaitingAt (old.gates number) touch
+      → gate.file ≡ (old.gates number).file ++ touch ∷ [] → gate.waits ≡ false
+      → gate.told ≡ (old.gates number).told → LeadsTo number cards (view_of number old) (view_by gate old)
+  leads-up number gate touch waiting more none told =
+      by_step number cards (view_of number old) (view_by gate old)
+      (inr (inr (inr (inr (inr (inr (inr (inr (inr (record {
+        touch = touch;
+        waited = record { earlier = waiting.earlier; last = waiting.last; waits = waiting.waits };
+        is = both_are (view_by gate old) gate.file ((old.gates number).file ++ touch ∷ []) gate.waits false more none
+            ∙ ap (λ (l : List Judged). record (view_of number old) {
+              asked = (old.gates number).file ++ touch ∷ [];
+              waits = false;
+              told = l;
+            }) told;
+      }))))))))))
+
+  leads-gives_up : (a : GivesUp old new) (other : ℕ) → LeadsTo other cards (view_of other old) (view_of other new)
+  leads-gives_up a =
+      let gate : Gate = record {
+        file = (old.gates a.number).file ++ a.touch ∷ [];
+        going = true;
+        waits = false;
+        told = (old.gates a.number).told;
+        refused = (old.gates a.number).refused;
+      } in
+      by_gate cards old new a.number gate a.is (leads-up a.number gate a.touch a.waited refl refl refl)
+
   leads-stops : (a : GateStops old new) (other : ℕ) → LeadsTo other cards (view_of other old) (view_of other new)
   leads-stops a =
       let gate : Gate = record {
@@ -145,14 +167,17 @@ module _ (alone : ℕ → Bool) (cards : ℕ) (old new : Whole) (h : Stands old)
         | inl same ↦ stay a.number cards (view_of a.number old) (view_by gate old)
             (both_are (view_of a.number old) a.left (old.gates a.number).file a.waits (old.gates a.number).waits
             same.0 same.1)
-        | inr more ↦ by_step a.number cards (view_of a.number old) (view_by gate old) (inl (record {
-          touch = more.0;
-          none = more.1.none;
-          own = more.1.own;
-          number = more.1.numbered;
-          is = both_are (view_of a.number old) a.left ((old.gates a.number).file ++ more.0 ∷ []) a.waits true more.2
-              more.3;
-        }))
+        | inr either ↦ elim either [
+          | inl more ↦ by_step a.number cards (view_of a.number old) (view_by gate old) (inl (record {
+            touch = more.0;
+            none = more.1.none;
+            own = more.1.own;
+            number = more.1.numbered;
+            is = both_are (view_of a.number old) a.left ((old.gates a.number).file ++ more.0 ∷ []) a.waits true more.2
+                more.3;
+          }))
+          | inr up ↦ leads-up a.number gate up.0 up.1 up.2 up.3 refl
+        ]
       ])
 
   leads-opens : (a : GateOpens old new) (other : ℕ) → LeadsTo other cards (view_of other old) (view_of other new)
@@ -160,7 +185,7 @@ module _ (alone : ℕ → Bool) (cards : ℕ) (old new : Whole) (h : Stands old)
       let gate : Gate = record {
         file = a.kept;
         going = true;
-        waits = is_any a.kept;
+        waits = is_some (waiting_of a.kept);
         told = (old.gates a.number).told;
         refused = (old.gates a.number).refused;
       } in
@@ -212,27 +237,27 @@ module _ (alone : ℕ → Bool) (cards : ℕ) (old new : Whole) (h : Stands old)
   leads-restarts a other = elim h.left [
     | inl all ↦
         by_step other cards (view_of other old) (view_of other new)
-        (inr (inr (inr (inr (inr (inr (inr (inr (record {
+        (inr (inr (inr (inr (inr (inr (inr (inr (inl (record {
           tables = a.tables;
           kept = a.kept;
           one_journal = a.one_journal ∙ all;
           same_tables = a.same_tables;
           legal = a.legal;
           is = ap (view_of other) a.is;
-        })))))))))
+        }))))))))))
     | inr flight ↦
         let split = pushed-of a.kept (touches_of old.station.history) flight.touch (a.one_journal ∙ flight.is) in
         let legal = subst (λ (l : List Entry). IsLegal a.tables cards (history_of l)) split.parts a.legal in
         let mid : Joint = record (view_of other old) { tables = a.tables; history = split.earlier } in
         by_two other cards (view_of other old) mid (view_of other new)
-        (inr (inr (inr (inr (inr (inr (inr (inr (record {
+        (inr (inr (inr (inr (inr (inr (inr (inr (inl (record {
           tables = a.tables;
           kept = split.earlier;
           one_journal = split.touches_are;
           same_tables = a.same_tables;
           legal = legal-earlier a.tables cards split.earlier split.last legal;
           is = refl;
-        })))))))))
+        }))))))))))
         (inr (inr (inr (inl (record {
           touch = split.last.touch;
           reply = split.last.reply;
@@ -253,6 +278,7 @@ module _ (alone : ℕ → Bool) (cards : ℕ) (old new : Whole) (h : Stands old)
   leads (others_send a) other is_alone = leads-others a other is_alone
   leads (hears a) other is_alone = leads-hears a other
   leads (hears_fault a) other is_alone = leads-fault a other
+  leads (gives_up a) other is_alone = leads-gives_up a other
   leads (gate_stops a) other is_alone = leads-stops a other
   leads (gate_opens a) other is_alone = leads-opens a other
   leads (enters a) other is_alone = leads-enters a other

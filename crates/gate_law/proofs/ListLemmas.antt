@@ -1,6 +1,6 @@
 -- What a list contains that grew, and what a gate's touches are among others.
 use Rattle.std.proofs.Common.{◌≡◌, ◌⊎◌, inl, inr, ℕ, zero, suc, ◌<◌, ◌==◌, Bool, true, false, cond, List, [], ◌∷◌, ◌++◌}
-use Rattle.std.proofs.Common.{length, get_or, refl, sym, ap, ◌∙◌, subst, Some}
+use Rattle.std.proofs.Common.{length, get_or, refl, sym, ap, ◌∙◌, subst, Some, None}
 use Rattle.std.specs.Prelude.{Contains, slice_get, ◌≢◌}
 use Rattle.std.proofs.lemmas.List.Elements.{filter-append}
 use Rattle.std.proofs.lemmas.Option.{slice_get_within, slice_get-get_or}
@@ -40,6 +40,59 @@ contains-push_cases xs y x there =
 pub contains-none : {X : Type 0} (xs : List X) (x : X) → xs ≡ [] → Contains xs x → ⊥
 contains-none [] x none there = let at = placed {X = _} [] x there in absurd cc
 contains-none (y ∷ xs) x none there = absurd cc
+
+-- it is the first, or among those behind that
+pub contains-head_cases : {X : Type 0} (y : X) (ys : List X) (x : X) → Contains (y ∷ ys) x → (y ≡ x) ⊎ Contains ys x
+contains-head_cases {X = X} y ys x there = by_place (placed (y ∷ ys) x there)
+  where
+    by_place : ((i : ℕ) × (slice_get (y ∷ ys) i ≡ Some x)) → (y ≡ x) ⊎ Contains ys x
+    by_place (zero, at) = inl cc
+    by_place (suc i, at) = inr (contained ys i x at)
+
+pub contains-behind : {X : Type 0} (y : X) (ys : List X) (x : X) → Contains ys x → Contains (y ∷ ys) x
+contains-behind y ys x there = let at = placed ys x there in contained (y ∷ ys) (suc at.0) x at.1
+
+-- what two lists contain, one behind the other
+pub contains-append_cases : {X : Type 0} (xs ys : List X) (x : X) → Contains (xs ++ ys) x
+    → Contains xs x ⊎ Contains ys x
+contains-append_cases [] ys x there = inr there
+contains-append_cases (z ∷ xs) ys x there = elim (contains-head_cases z (xs ++ ys) x there) [
+  | inl same ↦ inl (contained (z ∷ xs) 0 x (ap Some same))
+  | inr behind ↦ elim (contains-append_cases xs ys x behind) [
+    | inl before ↦ inl (contains-behind z xs x before)
+    | inr later ↦ inr later
+  ]
+]
+
+-- two lists with one item more are the same where these and the items are
+pub push-both : {X : Type 0} (xs ys : List X) (x y : X) → xs ++ x ∷ [] ≡ ys ++ y ∷ [] → (xs ≡ ys) × (x ≡ y)
+push-both [] [] x y is = (refl, cc)
+push-both [] (b ∷ []) x y is = absurd cc
+push-both [] (b ∷ c ∷ ys) x y is = absurd cc
+push-both (a ∷ []) [] x y is = absurd cc
+push-both (a ∷ c ∷ xs) [] x y is = absurd cc
+push-both {X = X} (a ∷ xs) (b ∷ ys) x y is =
+    let head : a ≡ b = cc in
+    let tail : xs ++ x ∷ [] ≡ ys ++ y ∷ [] = cc in
+    let rest = push-both xs ys x y tail in
+    (ap (λ (z : X). z ∷ xs) head ∙ ap (λ (l : List X). b ∷ l) rest.0, rest.1)
+
+-- what is read where one more item stands: what was there, or that item, behind the others
+pub read-push : {X : Type 0} (xs : List X) (y : X) (i : ℕ)
+    → (slice_get (xs ++ y ∷ []) i ≡ slice_get xs i)
+    ⊎ ((i ≡ length xs) × (slice_get (xs ++ y ∷ []) i ≡ Some y) × (slice_get xs i ≡ None))
+read-push [] y zero = inr (refl, refl, refl)
+read-push [] y (suc i) = inl refl
+read-push (x ∷ xs) y zero = inl refl
+read-push (x ∷ xs) y (suc i) = elim (read-push xs y i) [
+  | inl same ↦ inl same
+  | inr last ↦ inr (ap suc last.0, last.1, last.2)
+]
+
+-- nothing is read at the end
+pub read-end : {X : Type 0} (xs : List X) → slice_get xs (length xs) ≡ None
+read-end [] = refl
+read-end (x ∷ xs) = read-end xs
 
 -- ---- a gate's touches
 

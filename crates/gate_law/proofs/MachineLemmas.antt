@@ -1,7 +1,7 @@
 -- That what gates and their station do is what one account machine does.
-use Rattle.std.proofs.Common.{◌≡◌, ◌⊎◌, inl, inr, ℕ, zero, suc, ◌<◌, ◌==◌, Bool, true, false, cond, IsTrue, List, []}
+use Rattle.std.proofs.Common.{◌≡◌, inl, inr, ℕ, ◌<◌, ◌==◌, Bool, true, false, cond, IsTrue, List, []}
 use Rattle.std.proofs.Common.{◌∷◌, ◌++◌}
-use Rattle.std.proofs.Common.{length, filter, refl, sym, ap, ◌∙◌, subst, arith, Some, append-nil, append_assoc}
+use Rattle.std.proofs.Common.{length, refl, sym, ap, ◌∙◌, subst, arith, Some, append-nil, append_assoc}
 use Rattle.std.specs.Prelude.{Contains, slice_get}
 use Rattle.std.proofs.lemmas.Option.{slice_get_within}
 use Rattle.oyster_account.specs.declared.touch.Touch.{Touch}
@@ -20,14 +20,16 @@ use Rattle.reply_book.proofs.LegalLemmas.{touches_in-history_of, legal-add, lega
 use Rattle.reply_book.proofs.CallerLemmas.{judged_of, history_of-push}
 use Rattle.gate_law.specs.Joint.{of_gate}
 use Rattle.gate_law.specs.Premises.{SameTables, TheLock}
-use Rattle.gate_law.specs.Agreement.{AreAllButLast}
+use Rattle.gate_law.specs.Agreement.{AreInOrder}
 use Rattle.gate_law.specs.Whole.{Whole}
-use Rattle.gate_law.specs.WholeSteps.{Step, StationOpens, asks, sends, others_send, hears, hears_fault, gate_stops}
-use Rattle.gate_law.specs.WholeSteps.{gate_opens, enters, replies, refuses, tells, station_stops, station_opens}
+use Rattle.gate_law.specs.WholeSteps.{Step, StationOpens, asks, sends, others_send, hears, hears_fault, gives_up}
+use Rattle.gate_law.specs.WholeSteps.{gate_stops, gate_opens, enters, replies, refuses, tells, station_stops}
+use Rattle.gate_law.specs.WholeSteps.{station_opens}
 use Rattle.gate_law.specs.WholeAgreement.{IsRun, IsStart, AllAgree}
 use Rattle.gate_law.specs.Machine.{Machine, replies_to, IsAsk, AreAsks, machine_of, IsAskOrNone, IsEachStepAtomic}
 use Rattle.gate_law.specs.Machine.{IsEachRunOfMachine}
 use Rattle.gate_law.proofs.ListLemmas.{placed, contained}
+use Rattle.gate_law.proofs.FilterLemmas.{filter-has}
 use Rattle.gate_law.proofs.OpeningLemmas.{pushed-of, legal-earlier, lock-last, new-last}
 use Rattle.gate_law.proofs.StandsLemmas.{Stands, stands-first, stands-next}
 use Rattle.gate_law.proofs.WholeLemmas.{all_agree}
@@ -107,6 +109,7 @@ module _ (alone : ℕ → Bool) (cards : ℕ) (old new : Whole) (h : IsSound car
   one-step (others_send a) = inl (ap machine_of a.is)
   one-step (hears a) = inl (ap machine_of a.is)
   one-step (hears_fault a) = inl (ap machine_of a.is)
+  one-step (gives_up a) = inl (ap machine_of a.is)
   one-step (gate_stops a) = inl (ap machine_of a.is)
   one-step (gate_opens a) = inl (ap machine_of a.is)
   one-step (enters a) =
@@ -132,6 +135,7 @@ module _ (alone : ℕ → Bool) (cards : ℕ) (old new : Whole) (h : IsSound car
   legal-next (others_send a) = subst IsLegalIn (sym a.is) h.legal
   legal-next (hears a) = subst IsLegalIn (sym a.is) h.legal
   legal-next (hears_fault a) = subst IsLegalIn (sym a.is) h.legal
+  legal-next (gives_up a) = subst IsLegalIn (sym a.is) h.legal
   legal-next (gate_stops a) = subst IsLegalIn (sym a.is) h.legal
   legal-next (gate_opens a) = subst IsLegalIn (sym a.is) h.legal
   legal-next (enters a) =
@@ -224,25 +228,6 @@ module _ (tables : Tables) (cards : ℕ) where
 
 -- ---- what a gate was told
 
--- what passes the test is among those that do
-kept-of : {X : Type 0} (p : X → Bool) (xs : List X) (x : X) → p x ≡ true → Contains xs x → Contains (filter p xs) x
-kept-of {X = X} p xs x passes there = let at = placed xs x there in by_place xs at.0 at.1
-  where
-    here : (b : Bool) (y : X) (ys : List X) → b ≡ true → Contains (cond b (y ∷ ys) ys) y
-    here true y ys is = contained (y ∷ ys) 0 y refl
-    here false y ys is = absurd cc
-
-    behind : (b : Bool) (y : X) (ys : List X) → Contains ys x → Contains (cond b (y ∷ ys) ys) x
-    behind true y ys is = let at = placed ys x is in contained (y ∷ ys) (suc at.0) x at.1
-    behind false y ys is = is
-
-    by_place : (ys : List X) (i : ℕ) → slice_get ys i ≡ Some x → Contains (filter p ys) x
-    by_place [] i at = absurd cc
-    by_place (y ∷ ys) zero at =
-        let same : y ≡ x = cc in
-        subst (λ (z : X). Contains (filter p (z ∷ ys)) x) (sym same) (here (p x) x (filter p ys) passes)
-    by_place (y ∷ ys) (suc i) at = behind (p y) y (filter p ys) (by_place ys i at)
-
 -- the touches of the replies to a gate are the gate's touches in the history
 replies-of : (gate : ℕ) (entries : List Entry)
     → touches_in (replies_to gate (record { history = history_of entries })) ≡ of_gate gate (touches_of entries)
@@ -268,7 +253,7 @@ told-of alone cards whole stands all gate judged is_alone told =
     let own : judged.touch.gate ≡ gate = stands.own gate at.0 judged.touch at.1 in
     let passes : (judged.touch.gate == gate) ≡ true =
     subst (λ (n : ℕ). (judged.touch.gate == n) ≡ true) own (equal-refl judged.touch.gate) in
-    kept-of (λ (j : Judged). j.touch.gate == gate) (history_of whole.station.history) judged passes
+    filter-has (λ (j : Judged). j.touch.gate == gate) (history_of whole.station.history) judged passes
     (contained (history_of whole.station.history) done.place judged done.stands)
 
 pub each_run_of_machine : IsEachRunOfMachine
@@ -285,7 +270,6 @@ each_run_of_machine alone cards old new between start is =
           (subst (IsLegal new.station.tables cards) grown.1 last.legal));
       told = λ gate judged is_alone told. told-of alone cards new last.stands all gate judged is_alone told;
       order = λ gate is_alone.
-          subst (λ (l : List Touch). (l ≡ (new.gates gate).file)
-          ⊎ AreAllButLast l (new.gates gate).file (new.gates gate).waits)
+          subst (λ (l : List Touch). AreInOrder l (new.gates gate).file (new.gates gate).waits)
           (sym (replies-of gate new.station.history)) (all.each gate is_alone).row;
     }

@@ -40,7 +40,7 @@ module _ (tables : Tables) where
     by = refl;
     starts = starts tables tables;
     runs = (inr asks, (inl sends, (inl enters, (inl answers, (inl hears, refl)))));
-    differs = lost heard_other 7 10 strange refl refl refl;
+    differs = lost heard_other 7 10 strange [] refl refl refl;
   }
     where
       asks : AsksForAnother (here tables) asked_other
@@ -161,7 +161,7 @@ module _ (tables : Tables) where
             refl,
           ),
         );
-    differs = lost heard_behind 7 10 first refl refl refl;
+    differs = lost heard_behind 7 10 first [] refl refl refl;
   }
 
   -- it is told, and nothing was asked

@@ -56,7 +56,7 @@ module _ (tables : Tables) where
         refl,
       ),
     );
-    differs = lost unwritten 7 10 first refl refl refl;
+    differs = lost unwritten 7 10 first [] refl refl refl;
   }
 
   abbrev sent_by_another : Joint
@@ -127,7 +127,7 @@ module _ (tables : Tables) where
     starts = starts tables tables;
     runs = then tables (RestartsAnother 10) another_journal (another_journal ∷ [])
         (inr (record { tables = tables; kept = []; legal = legal-none tables 10; is = refl }), refl);
-    differs = lost another_journal 7 10 first refl refl refl;
+    differs = lost another_journal 7 10 first [] refl refl refl;
   }
 
   abbrev sent_strange : Joint

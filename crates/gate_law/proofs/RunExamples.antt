@@ -110,7 +110,7 @@ module _ (tables others : Tables) where
   abbrev sent_next : Joint
   sent_next = record asked_next { sent = first ∷ strange ∷ first ∷ second ∷ [] }
 
-  abbrev in_flight : Joint
+  abbrev pub in_flight : Joint
   in_flight = record sent_next {
     history = entry strange issued 1 ∷ entry first issued 2 ∷ entry second issued_before 2 ∷ [];
   }
@@ -135,7 +135,7 @@ module _ (tables others : Tables) where
     answers = answer first issued ∷ answer first issued ∷ answers.Fault 4 7 2 ∷ answer second issued_before ∷ [];
   }
 
-  abbrev heard_next : Joint
+  abbrev pub heard_next : Joint
   heard_next = record answered_next {
     waits = false;
     told = judged first issued ∷ judged second issued_before ∷ [];
@@ -278,10 +278,10 @@ module _ (tables others : Tables) where
   runs_to_flight : IsRun 7 10 heard to_flight in_flight
   runs_to_flight = (asks_second, (sends_second, (enters_second, refl)))
 
-  abbrev before : List Joint
+  abbrev pub before : List Joint
   before = to_answered ++ to_heard ++ to_flight
 
-  runs_before : IsRun 7 10 start before in_flight
+  pub runs_before : IsRun 7 10 start before in_flight
   runs_before =
       run-append (Step 7 10) start heard in_flight (to_answered ++ to_heard) to_flight
       (run-append (Step 7 10) start answered heard to_answered to_heard runs_to_answered runs_to_heard) runs_to_flight
@@ -293,14 +293,14 @@ module _ (tables others : Tables) where
       (they_agree 7 10 start in_flight before starts runs_before).legal.once
 
   restarts : Step 7 10 in_flight restarted
-  restarts = inr (inr (inr (inr (inr (inr (inr (inr (record {
+  restarts = inr (inr (inr (inr (inr (inr (inr (inr (inl (record {
     tables = others;
     kept = restarted.history;
     one_journal = refl;
     same_tables = refl;
     legal = legal_again;
     is = refl;
-  }))))))))
+  })))))))))
 
   repeats_second : Step 7 10 restarted repeated_next
   repeats_second = inr (inl (record {
@@ -336,10 +336,10 @@ module _ (tables others : Tables) where
   })))))))
 
   -- the station is opened again, and the gate repeats until it has the reply
-  abbrev after : List Joint
+  abbrev pub after : List Joint
   after = restarted ∷ repeated_next ∷ refused_next ∷ answered_next ∷ heard_next ∷ []
 
-  runs_after : IsRun 7 10 in_flight after heard_next
+  pub runs_after : IsRun 7 10 in_flight after heard_next
   runs_after = (restarts, (repeats_second, (refuses_second, (answers_second, (hears_second, refl)))))
 
   -- the law, of this run: both sides agree at its end

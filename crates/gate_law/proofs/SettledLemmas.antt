@@ -25,7 +25,7 @@ use Rattle.gate_session.specs.Session.{Exchange, IsRefused, IsAnswerCut, IsRefus
 use Rattle.text_io.specs.Writing.{IsBeginning, Wrote}
 use Rattle.gate_client.specs.declared.client.Client.{Client}
 use Rattle.gate_client.specs.Client.{HasAsked, answered, gate_of, waits_of}
-use Rattle.gate_client.specs.File.{last_of}
+use Rattle.gate_client.specs.File.{waiting_of}
 use Rattle.gate_client.specs.Heard.{frame_of}
 use Rattle.gate_law.specs.Joint.{Joint}
 use Rattle.gate_law.specs.Steps.{Asks, Step, is_reply}
@@ -285,7 +285,7 @@ pub settled : {C D : Type 0} {g : Ghosts D} (gives : C → Request → Answer �
 settled {D = D} {g = g} gives station keeps touch frame bytes text back a b fits whole brought served asked old new
     reply has waits legal kept answered later heard reply_fits = record {
       file = kept;
-      last = subst (λ (o : Option Touch). IfSome o (λ t. last_of asked ≡ Some t)) waits has.last;
+      last = subst (λ (o : Option Touch). IfSome o (λ t. waiting_of asked ≡ Some t)) waits has.last;
       once =
           stands gives station keeps.does keeps.fitting touch frame bytes text a b fits whole brought served back reply
           legal later heard reply_fits;

@@ -1,21 +1,20 @@
 -- What holds at the start and is kept by each step; and what each step is for one gate and the station.
 use Rattle.std.proofs.Common.{◌≡◌, inl, inr, ℕ, ◌==◌, Bool, true, false, List, [], ◌∷◌, ◌++◌, refl, sym, ap}
-use Rattle.std.proofs.Common.{◌∙◌, subst, Some}
+use Rattle.std.proofs.Common.{◌∙◌, subst, Some, length, is_some}
 use Rattle.std.specs.Prelude.{slice_get}
 use Rattle.oyster_account.specs.declared.touch.Touch.{Touch}
 use Rattle.reply_book.specs.declared.entry.Entry.{Entry}
 use Rattle.reply_book.specs.Legal.{touches_of}
-use Rattle.reply_book.proofs.PlaceLemmas.{slice_get-push_cases}
+use Rattle.reply_book.proofs.PlaceLemmas.{slice_get-push_cases, slice_get-behind}
 use Rattle.reply_book.proofs.NameLemmas.{equal}
 use Rattle.reply_book.proofs.CallerLemmas.{touches_of-push}
 use Rattle.gate_session.specs.declared.answer.Answer.{Answer}
 use Rattle.gate_session.specs.declared.answer.Answer.TheVariants as answers
-use Rattle.gate_law.specs.Joint.{is_any}
+use Rattle.gate_client.specs.File.{waiting_of}
 use Rattle.gate_law.proofs.ListLemmas.{contains-left, contains-none, contained}
-use Rattle.gate_law.specs.Whole.{Gate, Whole, with_gate}
-use Rattle.gate_law.specs.WholeSteps.{IsAsked}
+use Rattle.gate_law.specs.Whole.{Gate, Whole, with_gate, IsWaitingAt}
 use Rattle.gate_law.specs.WholeSteps.{IsLeftBehind, Step, asks, sends, others_send, hears, hears_fault}
-use Rattle.gate_law.specs.WholeSteps.{gate_stops, gate_opens, enters, replies, refuses, tells, station_stops}
+use Rattle.gate_law.specs.WholeSteps.{gives_up, gate_stops, gate_opens, enters, replies, refuses, tells, station_stops}
 use Rattle.gate_law.specs.WholeSteps.{station_opens}
 use Rattle.gate_law.specs.WholeAgreement.{IsStart}
 use Rattle.gate_law.proofs.ViewLemmas.{with-own, with-other}
@@ -71,6 +70,13 @@ own-with gates number gate own mine other i touch = by_test (other == number) re
         (with-other gates number other gate e) at)
 
 module _ (old : Whole) (h : Stands old) where
+  -- the touch that waits is of its gate
+  pub waiting-own : (number : ℕ) (touch : Touch) → IsWaitingAt (old.gates number) touch → touch.gate ≡ number
+  waiting-own number touch waiting =
+      h.own number (length waiting.earlier) touch
+      (ap (λ (l : List Touch). slice_get l (length waiting.earlier)) waiting.last
+      ∙ slice_get-behind waiting.earlier touch [])
+
   -- a gate whose file is as it was
   same-file : (number : ℕ) (gate : Gate) → gate.file ≡ (old.gates number).file
       → Stands (record old { gates = with_gate old.gates number gate })
@@ -82,15 +88,15 @@ module _ (old : Whole) (h : Stands old) where
   }
 
   -- a gate whose file has one touch more, of its own
-  more-file : (number : ℕ) (gate : Gate) (touch : Touch) → IsAsked number (old.gates number) touch
+  more-file : (number : ℕ) (gate : Gate) (touch : Touch) → touch.gate ≡ number
       → gate.file ≡ (old.gates number).file ++ touch ∷ []
       → Stands (record old { gates = with_gate old.gates number gate })
-  more-file number gate touch asked more = record {
+  more-file number gate touch own more = record {
     own = own-with old.gates number gate h.own (λ i other at.
         elim (slice_get-push_cases (old.gates number).file touch i other
         (subst (λ (l : List Touch). slice_get l i ≡ Some other) more at)) [
           | inl before ↦ h.own number i other before
-          | inr last ↦ ap (λ (t : Touch). t.gate) (sym last.1) ∙ asked.own
+          | inr last ↦ ap (λ (t : Touch). t.gate) (sym last.1) ∙ own
         ]);
     going = h.going;
     left = h.left;
@@ -117,7 +123,7 @@ stands-next alone cards old new h (asks a) =
       waits = true;
       told = (old.gates a.number).told;
       refused = (old.gates a.number).refused;
-    }) a.touch a.asked refl)
+    }) a.touch a.asked.own refl)
 stands-next alone cards old new h (sends a) = subst Stands (sym a.is) (more-sent old h a.touch)
 stands-next alone cards old new h (others_send a) = subst Stands (sym a.is) (more-sent old h a.touch)
 stands-next alone cards old new h (hears a) =
@@ -136,6 +142,14 @@ stands-next alone cards old new h (hears_fault a) =
       told = (old.gates a.number).told;
       refused = (old.gates a.number).refused ++ record { touch = a.touch; code = a.code } ∷ [];
     }) refl)
+stands-next alone cards old new h (gives_up a) =
+    subst Stands (sym a.is) (more-file old h a.number (record {
+      file = (old.gates a.number).file ++ a.touch ∷ [];
+      going = true;
+      waits = false;
+      told = (old.gates a.number).told;
+      refused = (old.gates a.number).refused;
+    }) a.touch (waiting-own old h a.number a.touch a.waited) refl)
 stands-next alone cards old new h (gate_stops a) =
     let gate : Gate = record {
       file = a.left;
@@ -146,13 +160,16 @@ stands-next alone cards old new h (gate_stops a) =
     } in
     subst Stands (sym a.is) (elim a.either [
       | inl same ↦ same-file old h a.number gate same.0
-      | inr more ↦ more-file old h a.number gate more.0 more.1 more.2
+      | inr other ↦ elim other [
+        | inl more ↦ more-file old h a.number gate more.0 more.1.own more.2
+        | inr up ↦ more-file old h a.number gate up.0 (waiting-own old h a.number up.0 up.1) up.2
+      ]
     ])
 stands-next alone cards old new h (gate_opens a) =
     subst Stands (sym a.is) (same-file old h a.number (record {
       file = a.kept;
       going = true;
-      waits = is_any a.kept;
+      waits = is_some (waiting_of a.kept);
       told = (old.gates a.number).told;
       refused = (old.gates a.number).refused;
     }) a.one_journal)

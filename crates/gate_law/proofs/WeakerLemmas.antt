@@ -1,13 +1,14 @@
 -- Runs with a step that lacks a condition or a premise, each of which ends where gate and station don't agree. They are
 -- of gate 7 and 10 cards, by any tables of fares.
 use Rattle.std.proofs.Common.{◌≡◌, ◌⊎◌, inl, inr, ℕ, zero, suc, true, false, List, Some, [], ◌∷◌, ◌++◌, length, refl}
-use Rattle.std.proofs.Common.{ap, sym, ◌∙◌, arith}
+use Rattle.std.proofs.Common.{ap, sym, ◌∙◌, arith, is_some}
 use Rattle.std.specs.Prelude.{slice_get}
 use Rattle.oyster_account.specs.declared.touch.Touch.{Touch}
 use Rattle.oyster_account.specs.declared.reply.Judged.{Judged}
 use Rattle.reply_book.specs.Tables.{Tables}
 use Rattle.reply_book.specs.Legal.{touches_of}
-use Rattle.gate_law.specs.Joint.{Joint, of_gate}
+use Rattle.gate_client.specs.File.{waiting_of}
+use Rattle.gate_law.specs.Joint.{Joint, of_gate, not_given_up}
 use Rattle.gate_law.specs.Steps.{Step}
 use Rattle.gate_law.specs.Agreement.{IsRunOf, IsRun, Agrees}
 use Rattle.gate_law.specs.Weaker.{AsksOutOfTurn, AsksByAnyNumber, OpensIdle, HearsAnyNumber, AreWeaker, DoesBreak}
@@ -21,6 +22,15 @@ pub weaker : (gate cards : ℕ) (old new : Joint) → AreWeaker gate cards old n
 weaker gate cards old new = record {
   out_of_turn = λ s. record { touch = s.touch; own = s.own; number = s.number; is = s.is };
   any_number = λ s. record { touch = s.touch; none = s.none; own = s.own; is = s.is };
+  gives_up_again = λ s. record { touch = s.touch; earlier = s.waited.earlier; last = s.waited.last; is = s.is };
+  gives_up_another = λ s. record { touch = s.touch; waits = s.waited.waits; is = s.is };
+  opens_again = λ s. record {
+    kept = s.kept;
+    waits = is_some (waiting_of s.kept);
+    one_journal = s.one_journal;
+    last = λ is. is;
+    is = s.is;
+  };
   another_number = λ s. record {
     touch = s.touch;
     gate = s.gate;
@@ -87,16 +97,18 @@ again = issue 7 1 2
 
 -- ---- where the gate's touches in the history aren't those that it asked
 
--- none stands, and one was asked that doesn't wait
-pub lost : (s : Joint) (gate cards : ℕ) (t : Touch) → of_gate gate (touches_of s.history) ≡ [] → s.asked ≡ t ∷ []
+-- none stands, and some were asked that don't wait
+pub lost : (s : Joint) (gate cards : ℕ) (t : Touch) (ts : List Touch)
+    → not_given_up s.asked (of_gate gate (touches_of s.history)) ≡ [] → not_given_up s.asked s.asked ≡ t ∷ ts
     → s.waits ≡ false → Agrees gate cards s → ⊥
-lost s gate cards t none one idle a = elim a.row [
-  | inl all ↦ let no : t ∷ [] ≡ [] = sym one ∙ sym all ∙ none in absurd cc
+lost s gate cards t ts none some idle a = elim a.row [
+  | inl all ↦ let no : t ∷ ts ≡ [] = sym some ∙ sym all ∙ none in absurd cc
   | inr r ↦ let no : false ≡ true = sym idle ∙ r.is in absurd cc
 ]
 
 -- one stands, and none was asked
-pub stray : (s : Joint) (gate cards : ℕ) (t : Touch) → of_gate gate (touches_of s.history) ≡ t ∷ [] → s.asked ≡ []
+pub stray : (s : Joint) (gate cards : ℕ) (t : Touch)
+    → not_given_up s.asked (of_gate gate (touches_of s.history)) ≡ t ∷ [] → not_given_up s.asked s.asked ≡ []
     → Agrees gate cards s → ⊥
 stray s gate cards t one none a = elim a.row [
   | inl all ↦ let no : t ∷ [] ≡ [] = sym one ∙ all ∙ none in absurd cc
@@ -125,7 +137,7 @@ module _ (tables : Tables) where
   abbrev pub entered : Joint
   entered = record (sent tables tables) { history = entry first issued 1 ∷ [] }
 
-  abbrev answered : Joint
+  abbrev pub answered : Joint
   answered = record entered { answers = answer first issued ∷ [] }
 
   abbrev pub heard : Joint
@@ -271,7 +283,7 @@ module _ (tables : Tables) where
     starts = starts tables tables;
     runs =
         (inl (inl (record { touch = first; none = refl; own = refl; number = refl; is = refl })), (inr refl, refl));
-    differs = lost idle 7 10 first refl refl refl;
+    differs = lost idle 7 10 first [] refl refl refl;
   }
 
   -- the first touch's reply is told of the second

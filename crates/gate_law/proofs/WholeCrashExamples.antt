@@ -216,10 +216,10 @@ module _ (tables others : Tables) where
   runs_after : IsRun each 10 in_flight after heard_last
   runs_after = (reopens, (sends_second_at_last, (answers_second, (hears_second, refl))))
 
-  abbrev all : List Whole
+  abbrev pub all : List Whole
   all = (run.to_heard tables ++ to_flight) ++ after
 
-  runs : IsRun each 10 (run.start tables) all heard_last
+  pub runs : IsRun each 10 (run.start tables) all heard_last
   runs =
       run-then each 10 (run.start tables) in_flight heard_last (run.to_heard tables ++ to_flight) after
       (run-then each 10 (run.start tables) heard in_flight (run.to_heard tables) to_flight (run.runs_to_heard tables)

@@ -1,6 +1,6 @@
 -- That all gates agree with their station after every run.
 use Rattle.std.proofs.Common.{◌≡◌, inl, inr, ℕ, ◌==◌, Bool, true, false, List, [], ◌∷◌, ◌++◌, refl, sym, ap, ◌∙◌}
-use Rattle.std.proofs.Common.{subst, Some}
+use Rattle.std.proofs.Common.{subst, Some, is_some}
 use Rattle.std.specs.Prelude.{Contains, slice_get, ◌≢◌}
 use Rattle.oyster_account.specs.declared.touch.Touch.{Touch}
 use Rattle.oyster_account.specs.declared.reply.Judged.{Judged}
@@ -17,21 +17,23 @@ use Rattle.gate_session.specs.declared.answer.FaultCode.{FaultCode}
 use Rattle.gate_session.specs.declared.answer.FaultCode.TheVariants.{BadFrame, Conflict, Halted}
 use Rattle.gate_session.specs.declared.answer.FaultCode.TheVariants.{Memory, Full, UnknownTable, NotAllowed}
 use Rattle.gate_session.specs.Answers.{fault_code}
-use Rattle.gate_law.specs.Joint.{Joint, is_any}
+use Rattle.gate_client.specs.File.{waiting_of}
+use Rattle.gate_law.specs.Joint.{Joint}
 use Rattle.gate_law.specs.Steps as one_steps
 use Rattle.gate_law.specs.Agreement.{Agrees}
 use Rattle.gate_law.specs.Agreement as one_gate
 use Rattle.gate_law.proofs.ListLemmas.{contained, contains-left, contains-none, contains-push_cases}
-use Rattle.gate_law.proofs.StepLemmas.{Holds, starts, runs, run-append}
+use Rattle.gate_law.proofs.HoldsLemmas.{Holds, starts}
+use Rattle.gate_law.proofs.StepLemmas.{runs, run-append}
 use Rattle.gate_law.proofs.AgreementLemmas.{they_agree}
 use Rattle.gate_law.specs.Whole.{Gate, Station, Whole, Refusal, with_gate, view_of, IsCause}
 use Rattle.gate_law.specs.WholeSteps.{Refuses, Tells, HearsFault, IsOfNoTouch, Step, IsLeftBehind}
-use Rattle.gate_law.specs.WholeSteps.{asks, sends, others_send, hears, hears_fault, gate_stops, gate_opens, enters}
-use Rattle.gate_law.specs.WholeSteps.{replies, refuses, tells, station_stops, station_opens}
+use Rattle.gate_law.specs.WholeSteps.{asks, sends, others_send, hears, hears_fault, gives_up, gate_stops, gate_opens}
+use Rattle.gate_law.specs.WholeSteps.{enters, replies, refuses, tells, station_stops, station_opens}
 use Rattle.gate_law.specs.WholeAgreement.{IsRun, IsStart, LeadsTo, DoAllAgree, IsEachARun}
 use Rattle.gate_law.proofs.ViewLemmas.{with-own, with-other}
-use Rattle.gate_law.proofs.StandsLemmas.{Stands, stands-first, stands-next}
-use Rattle.gate_law.proofs.LeadsLemmas.{leads, waiting-own}
+use Rattle.gate_law.proofs.StandsLemmas.{Stands, stands-first, stands-next, waiting-own}
+use Rattle.gate_law.proofs.LeadsLemmas.{leads}
 
 -- a run, and then another one from where it ends
 pub run-then : (alone : ℕ → Bool) (cards : ℕ) (old mid new : Whole) (xs ys : List Whole) → IsRun alone cards old xs mid
@@ -68,7 +70,7 @@ start-of alone cards whole start number is_alone = record {
   told = (start.blank number).told;
 }
 
-reached-first : (alone : ℕ → Bool) (cards : ℕ) (whole : Whole) → IsStart alone cards whole
+pub reached-first : (alone : ℕ → Bool) (cards : ℕ) (whole : Whole) → IsStart alone cards whole
     → Reached alone cards whole
 reached-first alone cards whole start = record {
   stands = stands-first alone cards whole start;
@@ -93,7 +95,7 @@ further gate cards first mid new one two = record {
 agrees : (gate cards : ℕ) (s : Joint) → IsReached gate cards s → Agrees gate cards s
 agrees gate cards s is = they_agree gate cards is.first s is.way.between is.starts is.way.run
 
-holds : (gate cards : ℕ) (s : Joint) → IsReached gate cards s → Holds gate cards s
+pub holds : (gate cards : ℕ) (s : Joint) → IsReached gate cards s → Holds gate cards s
 holds gate cards s is = runs gate cards is.first s is.way.between (starts gate cards is.first is.starts) is.way.run
 
 -- a fault of this code comes of a conflict
@@ -198,7 +200,7 @@ module _ (alone : ℕ → Bool) (cards : ℕ) (old : Whole) (h : Reached alone c
             | inl before ↦ h.never a.number refusal is_here before
             | inr last ↦ λ code.
                 let same : a.code ≡ fault_code Conflict = ap (λ (r : Refusal). r.code) last ∙ code in
-                let own = waiting-own alone cards old new h.stands a.number a.touch a.waiting in
+                let own = waiting-own old h.stands a.number a.touch a.waiting in
                 h.no_conflict a.touch.gate a.touch.number (ap alone own ∙ is_here)
                 (subst (λ (n : ℕ). Contains old.answers (answers.Fault n a.touch.gate a.touch.number)) same a.line)
           ]
@@ -253,6 +255,16 @@ true-next alone cards old new h (hears_fault a) = subst (AreTrue alone) (sym a.i
     refused = (old.gates a.number).refused ++ record { touch = a.touch; code = a.code } ∷ [];
   }) refl;
 })
+true-next alone cards old new h (gives_up a) = subst (AreTrue alone) (sym a.is) (record {
+  no_conflict = h.no_conflict;
+  never = never-same alone cards old h a.number (record {
+    file = (old.gates a.number).file ++ a.touch ∷ [];
+    going = true;
+    waits = false;
+    told = (old.gates a.number).told;
+    refused = (old.gates a.number).refused;
+  }) refl;
+})
 true-next alone cards old new h (gate_stops a) = subst (AreTrue alone) (sym a.is) (record {
   no_conflict = h.no_conflict;
   never = never-same alone cards old h a.number (record {
@@ -268,7 +280,7 @@ true-next alone cards old new h (gate_opens a) = subst (AreTrue alone) (sym a.is
   never = never-same alone cards old h a.number (record {
     file = a.kept;
     going = true;
-    waits = is_any a.kept;
+    waits = is_some (waiting_of a.kept);
     told = (old.gates a.number).told;
     refused = (old.gates a.number).refused;
   }) refl;
@@ -300,7 +312,7 @@ true-next alone cards old new h (station_opens a) = subst (AreTrue alone) (sym a
   never = h.never;
 })
 
-reached-next : (alone : ℕ → Bool) (cards : ℕ) (old new : Whole) → Reached alone cards old
+pub reached-next : (alone : ℕ → Bool) (cards : ℕ) (old new : Whole) → Reached alone cards old
     → Step alone cards old new → Reached alone cards new
 reached-next alone cards old new h step =
     let truly = true-next alone cards old new h step in
@@ -318,14 +330,14 @@ reached-next alone cards old new h step =
       never = truly.never;
     }
 
-reached : (alone : ℕ → Bool) (cards : ℕ) (old new : Whole) (between : List Whole) → Reached alone cards old
+pub reached : (alone : ℕ → Bool) (cards : ℕ) (old new : Whole) (between : List Whole) → Reached alone cards old
     → IsRun alone cards old between new → Reached alone cards new
 reached alone cards old new [] h is = subst (Reached alone cards) (sym is) h
 reached alone cards old new (next ∷ later) h is =
     reached alone cards next new later (reached-next alone cards old next h is.0) is.1
 
 -- the way of a gate from the first state of a run
-ways : (alone : ℕ → Bool) (cards : ℕ) (old new : Whole) (between : List Whole) → Stands old
+pub ways : (alone : ℕ → Bool) (cards : ℕ) (old new : Whole) (between : List Whole) → Stands old
     → IsRun alone cards old between new → (number : ℕ) → alone number ≡ true
     → LeadsTo number cards (view_of number old) (view_of number new)
 ways alone cards old new [] h is number is_alone = record { between = []; run = ap (view_of number) is }

@@ -1,11 +1,11 @@
 -- Runs with a crash or an opening that lacks a condition, each of which ends where not all agree. They are of gate 7
 -- and 10 cards, by any tables of fares, and begin as the run in WholeExamples does.
-use Rattle.std.proofs.Common.{◌≡◌, inl, inr, ℕ, Bool, true, false, List, [], ◌∷◌, ◌++◌, refl, ap, ◌∙◌}
+use Rattle.std.proofs.Common.{◌≡◌, inl, inr, ℕ, Bool, true, false, List, [], ◌∷◌, ◌++◌, refl, ap, ◌∙◌, is_some}
 use Rattle.std.specs.Prelude.{Contains}
 use Rattle.oyster_account.specs.declared.touch.Touch.{Touch}
 use Rattle.reply_book.specs.Tables.{Tables}
 use Rattle.reply_book.proofs.CallerLemmas.{legal-none}
-use Rattle.gate_law.specs.Joint.{is_any}
+use Rattle.gate_client.specs.File.{waiting_of}
 use Rattle.gate_law.specs.Whole.{Whole, with_gate}
 use Rattle.gate_law.specs.WholeSteps.{Step, hears, gate_stops, enters, replies, station_stops}
 use Rattle.gate_law.specs.WholeWeaker.{EntersUnsynced}
@@ -43,16 +43,24 @@ weaker alone cards old new = record {
   gate_loses = λ s. record { number = s.number; left = s.left; waits = s.waits; is = s.is };
   opens_idle = λ s same. record {
     number = s.number;
-    waits = is_any s.kept;
+    waits = is_some (waiting_of s.kept);
     is = s.is ∙ ap (λ (l : List Touch). record old {
       gates = with_gate old.gates s.number (record {
         file = l;
         going = true;
-        waits = is_any s.kept;
+        waits = is_some (waiting_of s.kept);
         told = (old.gates s.number).told;
         refused = (old.gates s.number).refused;
       });
     }) same;
+  };
+  opens_again = λ s. record {
+    number = s.number;
+    kept = s.kept;
+    waits = is_some (waiting_of s.kept);
+    one_journal = s.one_journal;
+    last = λ is. is;
+    is = s.is;
   };
   station_loses = λ s. record { left = s.left; is = s.is };
   another_journal = λ s. record {

@@ -10,7 +10,8 @@ use Rattle.reply_book.specs.Names.{has_same_name, AreNamedOnce}
 use Rattle.reply_book.specs.Lookup.{found}
 use Rattle.reply_book.specs.Legal.{IsLegal, history_of, touches_of}
 use Rattle.gate_session.specs.declared.answer.Answer.TheVariants as answers
-use Rattle.gate_law.specs.Joint.{Joint, of_gate}
+use Rattle.gate_client.specs.File.{AreNumbered}
+use Rattle.gate_law.specs.Joint.{Joint, of_gate, is_given_up, not_given_up, IsWaiting}
 use Rattle.gate_law.specs.Premises.{Alone}
 use Rattle.gate_law.specs.Steps.{Step}
 
@@ -35,11 +36,23 @@ pub record IsStart (gate cards : ℕ) (s : Joint) : Type 0 where
       → Contains s.answers (answers.Reply gate number reply) → ⊥
   pub told : s.told ≡ []
 
--- these are all that were asked but the last, and that one waits
+-- these are all of those but the last, and that one waits
 pub record AreAllButLast (row asked : List Touch) (waits : Bool) : Type 0 where
   pub last : Touch
   pub parts : asked ≡ row ++ last ∷ []
   pub is : waits ≡ true
+
+-- but for those that were given up, these are the touches that were asked, in their order, or all
+-- of them but the last, which waits
+abbrev pub AreInOrder : List Touch → List Touch → Bool → Type 0
+AreInOrder row asked waits = (not_given_up asked row ≡ not_given_up asked asked)
+    ⊎ AreAllButLast (not_given_up asked row) (not_given_up asked asked) waits
+
+-- where a name stands at two places, there stands the same touch, and it was given up
+abbrev pub AreNamedAlike : List Touch → Type 0
+AreNamedAlike asked =
+    (i j : ℕ) (a b : Touch) → slice_get asked i ≡ Some a → slice_get asked j ≡ Some b
+    → IsTrue (has_same_name a b) → (a ≡ b) × ((i ≡ j) ⊎ (is_given_up asked a.number ≡ true))
 
 -- the touch was asked, and stands in the history with this reply, at one place, and nothing else
 -- stands under its name
@@ -51,14 +64,21 @@ pub record IsDone (s : Joint) (judged : Judged) : Type 0 where
       → IsTrue (has_same_name judged.touch touch) → other ≡ place
 
 -- the gate's touches in the history are those that were asked, in their order, or all of them but
--- the last, which waits; each touch that the caller was told is done stands there once, with its
--- reply; no name was asked twice, so no touch that was asked conflicts with one that stands; and
--- the history is legal: no name stands twice, and each reply is the account's at that point
+-- the last, which waits; of the touches that were given up some stand there too, at any place; none
+-- stands there that wasn't asked, and no name stands there twice, so a touch that was given up
+-- stands there at most once. Each touch that the caller was told is done stands there, with its
+-- reply. Each touch has its place and one as its number, or gives up the one before it; no name was
+-- asked for two touches, so no touch that was asked conflicts with one that stands; and one that
+-- was given up doesn't wait. The history is legal: each reply is the account's at that point
 pub record Agrees (gate cards : ℕ) (s : Joint) : Type 0 where
-  pub row : (of_gate gate (touches_of s.history) ≡ s.asked)
-      ⊎ AreAllButLast (of_gate gate (touches_of s.history)) s.asked s.waits
+  pub row : AreInOrder (of_gate gate (touches_of s.history)) s.asked s.waits
+  pub kept : (touch : Touch) → touch.gate ≡ gate → Contains (touches_of s.history) touch
+      → Contains s.asked touch
+  pub once : AreNamedOnce (touches_of s.history)
   pub told : (judged : Judged) → Contains s.told judged → IsDone s judged
-  pub named : AreNamedOnce s.asked
+  pub numbered : AreNumbered gate s.asked
+  pub named : AreNamedAlike s.asked
+  pub waiting : (touch : Touch) → IsWaiting s touch → is_given_up s.asked touch.number ≡ false
   pub no_conflict : (touch : Touch) → Contains s.asked touch → found s.history touch ≢ Conflict
   pub legal : IsLegal s.tables cards (history_of s.history)
 

@@ -18,9 +18,10 @@ use Rattle.gate_client.specs.Client.{header_in}
 use Rattle.gate_client.specs.Heard.{frame_of}
 use Rattle.gate_law.specs.Joint.{Joint}
 use Rattle.gate_law.specs.Premises.{Line}
-use Rattle.gate_law.specs.Steps.{Asks, Sends, Hears, Opens}
+use Rattle.gate_law.specs.Steps.{Asks, Sends, Hears, GivesUp, Opens}
 use Rattle.gate_law.specs.Lines.{IsWritten}
-use Rattle.gate_law.specs.Gate.{IsGateOf, LeadsTo, asked_in, sent_in, heard_in, opened_in}
+use Rattle.gate_law.specs.Gate.{IsGateOf, LeadsTo, asked_in, sent_in, heard_in, given_up_in}
+use Rattle.gate_law.specs.Gate.{opened_in}
 
 -- the text is whole frames of these touches, and then nothing, or a part of one more
 abbrev pub AreWritten : List ℕ → List Touch → Type 0
@@ -66,6 +67,19 @@ module _ {D : Type 0} {g : Ghosts D} where
       → Line s.answers (answers.Reply touch.gate touch.number reply)
       → LeadsTo Hears gate s (heard_in s touch reply) new
 
+  -- `Client::give_up` has given up this touch, which waited: it stands once more behind those kept
+  -- before, and none waits
+  pub record HasGivenUp (asked : List Touch) (touch : Touch) (old new : Client D g) : Type 0 where
+    pub waited : waits_of old ≡ Some touch
+    pub kept : HasAsked (asked ++ touch ∷ []) new
+    pub none : waits_of new ≡ None
+    pub gate : gate_of new ≡ gate_of old
+
+  -- that is the step GivesUp
+  abbrev pub IsGivingUp : Client D g → Client D g → Type 0
+  IsGivingUp old new = (gate : ℕ) (s : Joint) (touch : Touch) → IsGateOf gate s old
+      → HasGivenUp s.asked touch old new → LeadsTo GivesUp gate s (given_up_in s touch) new
+
   -- `Client::open` has opened the file of the touches that are kept: that is the step Opens, and
   -- its premise One journal holds
   abbrev pub IsOpening : Client D g → Type 0
@@ -87,3 +101,17 @@ module _ {D : Type 0} {g : Ghosts D} where
       → WithOrWithout (header_in old) s.asked (next_touch gate s.asked card act) content
       → g.honest (disk_of client) → IsOpened gate content client
       → OpensEither gate s (next_touch gate s.asked card act) client
+
+  -- what an opening behind a crash of `Client::give_up` is: the step Opens alone, or GivesUp and
+  -- then Opens
+  abbrev pub OpensGivenUp : ℕ → Joint → Touch → Client D g → Type 0
+  OpensGivenUp gate s touch client = LeadsTo Opens gate s (opened_in s) client
+      ⊎ (GivesUp s (given_up_in s touch)
+      × LeadsTo Opens gate (given_up_in s touch) (opened_in (given_up_in s touch)) client)
+
+  -- so it is where `Client::open` has opened what a crash at some moment of `Client::give_up` left
+  abbrev pub IsOpeningAfterGivingUp : Client D g → Client D g → Type 0
+  IsOpeningAfterGivingUp old client = (gate : ℕ) (s : Joint) (touch : Touch) (content : List ℕ)
+      → IsGateOf gate s old → waits_of old ≡ Some touch
+      → WithOrWithout (header_in old) s.asked touch content → g.honest (disk_of client)
+      → IsOpened gate content client → OpensGivenUp gate s touch client

@@ -5,8 +5,9 @@ use Rattle.oyster_account.specs.declared.touch.Touch.{Touch}
 use Rattle.oyster_account.specs.declared.reply.Reply.{Reply}
 use Rattle.tap_disk.specs.declared.disk.Disk.{Ghosts}
 use Rattle.gate_client.specs.declared.client.Client.{Client}
+use Rattle.gate_client.specs.File.{waiting_of}
 use Rattle.gate_client.specs.Client.{HasAsked, gate_of, waits_of}
-use Rattle.gate_law.specs.Joint.{Joint, is_any}
+use Rattle.gate_law.specs.Joint.{Joint}
 
 -- the state's touches are those that the client of this gate has kept, and one waits in the state
 -- where one waits in the client
@@ -37,6 +38,10 @@ heard_in s touch reply = record s {
   told = s.told ++ record { touch = touch; reply = reply } ∷ [];
 }
 
--- the state with the touches that it had, of which the last waits
+-- the state in which a touch was given up, and none waits
+abbrev pub given_up_in : Joint → Touch → Joint
+given_up_in s touch = record s { asked = s.asked ++ touch ∷ []; waits = false }
+
+-- the state with the touches that it had, of which the last waits, where it isn't given up
 abbrev pub opened_in : Joint → Joint
-opened_in s = record s { asked = s.asked; waits = is_any s.asked }
+opened_in s = record s { asked = s.asked; waits = is_some (waiting_of s.asked) }

@@ -8,6 +8,7 @@ pub mod Whole
 pub mod WholeSteps
 pub mod WholeAgreement
 pub mod WholeWeaker
+pub mod GivenUp
 pub mod Machine
 pub mod Gate
 pub mod Calls

@@ -9,7 +9,7 @@ use Rattle.oyster_account.specs.declared.reply.Judged.{Judged}
 use Rattle.reply_book.specs.Names.{has_same_name}
 use Rattle.reply_book.specs.Tables.{Tables}
 use Rattle.reply_book.specs.Legal.{history_of, touches_in, judge_after}
-use Rattle.gate_law.specs.Agreement.{AreAllButLast}
+use Rattle.gate_law.specs.Agreement.{AreInOrder}
 use Rattle.gate_law.specs.Whole.{Whole}
 use Rattle.gate_law.specs.WholeSteps.{Step}
 use Rattle.gate_law.specs.WholeAgreement.{IsRun, IsStart}
@@ -62,7 +62,8 @@ IsEachStepAtomic =
 -- what came of a run is what the machine gave. Between the two states it was asked these touches,
 -- one after the other, by the tables that the station has at the end. What the caller of a gate was
 -- told is a part of the replies that the machine gave to that gate; and these are replies to the
--- touches in the gate's file, in their order, to all of them or to all but the last, which waits
+-- touches in the gate's file, in their order, to all of them or to all but the last, which waits,
+-- but for those that the gate has given up: to these it gave a reply or none, at any place
 pub record IsOfMachine (alone : ℕ → Bool) (cards : ℕ) (old new : Whole) : Type 0 where
   pub asked : List Judged
   pub run : AreAsks new.station.tables cards (machine_of old) asked (machine_of new)
@@ -70,8 +71,7 @@ pub record IsOfMachine (alone : ℕ → Bool) (cards : ℕ) (old new : Whole) : 
       → Contains (new.gates gate).told judged
       → Contains (replies_to gate (machine_of new)) judged
   pub order : (gate : ℕ) → alone gate ≡ true
-      → (touches_in (replies_to gate (machine_of new)) ≡ (new.gates gate).file)
-      ⊎ AreAllButLast (touches_in (replies_to gate (machine_of new))) (new.gates gate).file
+      → AreInOrder (touches_in (replies_to gate (machine_of new))) (new.gates gate).file
       (new.gates gate).waits
 
 -- so it is after every run

@@ -14,7 +14,7 @@ use Rattle.gate_session.specs.declared.session.Served.{Served}
 use Rattle.gate_session.specs.Session.{IsSession}
 use Rattle.text_io.specs.Writing.{IsBeginning}
 use Rattle.gate_client.specs.declared.client.Client.{Client}
-use Rattle.gate_client.specs.File.{last_of}
+use Rattle.gate_client.specs.File.{waiting_of}
 use Rattle.gate_client.specs.Client.{HasAsked, gate_of, waits_of}
 use Rattle.gate_law.specs.Joint.{Joint}
 use Rattle.gate_law.specs.Agreement.{IsRun, IsStart}
@@ -29,12 +29,12 @@ pub record StandsOnce (history : List Entry) (judged : Judged) : Type 0 where
   pub alone : (other : ℕ) (touch : Touch) → slice_get (touches_of history) other ≡ Some touch
       → IsTrue (has_same_name judged.touch touch) → other ≡ place
 
--- the gate's client has kept these touches, of which this is the last; it stands once in the
--- station's history, with this reply; and none waits
+-- the gate's client has kept these touches, of which this is the last, and isn't given up; it
+-- stands once in the station's history, with this reply; and none waits
 pub record IsSettled {D : Type 0} {g : Ghosts D} (asked : List Touch) (touch : Touch)
     (reply : Reply) (client : Client D g) (history : List Entry) : Type 0 where
   pub file : HasAsked asked client
-  pub last : last_of asked ≡ Some touch
+  pub last : waiting_of asked ≡ Some touch
   pub once : StandsOnce history (record { touch = touch; reply = reply })
   pub none : waits_of client ≡ None
 

@@ -2,6 +2,7 @@
 -- touch waits at a time, with the number of its place, is this project's choice). A message that is
 -- lost is a step that doesn't come; a crash of either side is an opening, after whatever it left.
 use Rattle.std.specs.Prelude.{◌≡◌, ◌⊎◌, ℕ, ◌+◌, Bool, true, false, List, [], ◌∷◌, ◌++◌, length}
+use Rattle.std.specs.Prelude.{is_some}
 use Rattle.oyster_account.specs.declared.touch.Touch.{Touch}
 use Rattle.oyster_account.specs.declared.reply.Reply.{Reply}
 use Rattle.reply_book.specs.declared.entry.Entry.{Entry}
@@ -11,7 +12,8 @@ use Rattle.reply_book.specs.Lookup.{found}
 use Rattle.reply_book.specs.Legal.{IsLegal, history_of, touches_of}
 use Rattle.gate_session.specs.declared.answer.Answer.{Answer}
 use Rattle.gate_session.specs.declared.answer.Answer.TheVariants as answers
-use Rattle.gate_law.specs.Joint.{Joint, is_any, IsWaiting}
+use Rattle.gate_client.specs.File.{waiting_of}
+use Rattle.gate_law.specs.Joint.{Joint, IsWaiting}
 use Rattle.gate_law.specs.Premises.{Line, Alone, OneJournal, SameTables, TheLock}
 
 -- the gate keeps one touch more, which then waits: none waited, it is of this gate, and its number
@@ -85,11 +87,19 @@ pub record Hears (old new : Joint) : Type 0 where
     told = old.told ++ record { touch = touch; reply = reply } ∷ [];
   }
 
--- the gate is opened again: the last touch waits, whether or not it was answered
+-- the gate gives up the touch that waits: it keeps that once more, right behind itself, and none
+-- waits
+pub record GivesUp (old new : Joint) : Type 0 where
+  pub touch : Touch
+  pub waited : IsWaiting old touch
+  pub is : new ≡ record old { asked = old.asked ++ touch ∷ []; waits = false }
+
+-- the gate is opened again: the last touch waits, whether or not it was answered, and none where
+-- that was given up
 pub record Opens (old new : Joint) : Type 0 where
   pub kept : List Touch
   pub one_journal : OneJournal kept old.asked
-  pub is : new ≡ record old { asked = kept; waits = is_any kept }
+  pub is : new ≡ record old { asked = kept; waits = is_some (waiting_of kept) }
 
 -- the station is opened again, and judges the touches that it finds by the tables that it is given
 pub record Restarts (cards : ℕ) (old new : Joint) : Type 0 where
@@ -105,3 +115,4 @@ abbrev pub Step : ℕ → ℕ → Joint → Joint → Type 0
 Step gate cards old new =
     Asks gate old new ⊎ Sends old new ⊎ OthersSend gate old new ⊎ Enters cards old new
     ⊎ Answers old new ⊎ Tells old new ⊎ Hears old new ⊎ Opens old new ⊎ Restarts cards old new
+    ⊎ GivesUp old new

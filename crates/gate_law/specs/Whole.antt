@@ -20,10 +20,10 @@ pub record Refusal : Type 0 where
   pub touch : Touch
   pub code : ℕ
 
--- a gate. A crash leaves the touches in its file, oldest first; it takes away that its program goes
--- on, and whether the last touch waits for its reply. Where it doesn't go on, that is what it was.
--- Its caller was told of these touches that they are done, each with the reply that it was told,
--- and of these a fault
+-- a gate. A crash leaves the touches in its file, oldest first, one that was given up once more
+-- right behind itself; it takes away that its program goes on, and whether the last touch waits for
+-- its reply. Where it doesn't go on, that is what it was. Its caller was told of these touches that
+-- they are done, each with the reply that it was told, and of these a fault
 pub record Gate : Type 0 where
   pub file : List Touch
   pub going : Bool

@@ -1,6 +1,7 @@
 -- What gates and their station do, a step at a time, crashes of either among it (PROTOCOL.md,
 -- "Names and repeats"; this project's choice). A message that is lost is a step that doesn't come.
 use Rattle.std.specs.Prelude.{◌≡◌, ◌⊎◌, ℕ, ◌+◌, Bool, true, false, List, [], ◌∷◌, ◌++◌, length}
+use Rattle.std.specs.Prelude.{is_some}
 use Rattle.oyster_account.specs.declared.touch.Touch.{Touch}
 use Rattle.oyster_account.specs.declared.reply.Reply.{Reply}
 use Rattle.reply_book.specs.declared.entry.Entry.{Entry}
@@ -14,7 +15,7 @@ use Rattle.gate_session.specs.declared.answer.FaultCode.{FaultCode}
 use Rattle.gate_session.specs.declared.answer.FaultCode.TheVariants.{BadFrame, Halted}
 use Rattle.gate_session.specs.declared.answer.FaultCode.TheVariants.{NotAllowed}
 use Rattle.gate_session.specs.Answers.{fault_code}
-use Rattle.gate_law.specs.Joint.{is_any}
+use Rattle.gate_client.specs.File.{waiting_of}
 use Rattle.gate_law.specs.Premises.{Line, OneJournal, SameTables, TheLock}
 use Rattle.gate_law.specs.Whole.{Gate, Whole, with_gate, IsWaitingAt, IsCause}
 
@@ -149,12 +150,32 @@ pub record HearsFault (old new : Whole) : Type 0 where
     });
   }
 
--- what a crash leaves of a gate's file, with whether the last touch in it waited: what it was, or
--- one touch more, that it was being asked for
+-- a gate gives up the touch that waits: its file has that once more, right behind itself, and none
+-- waits
+pub record GivesUp (old new : Whole) : Type 0 where
+  pub number : ℕ
+  pub touch : Touch
+  pub going : (old.gates number).going ≡ true
+  pub waited : IsWaitingAt (old.gates number) touch
+  pub is : new ≡ record old {
+    gates = with_gate old.gates number (record {
+      file = (old.gates number).file ++ touch ∷ [];
+      going = true;
+      waits = false;
+      told = (old.gates number).told;
+      refused = (old.gates number).refused;
+    });
+  }
+
+-- what a crash leaves of a gate's file, with whether the last touch in it waited: what it was, one
+-- touch more, that it was being asked for, or the touch that waited once more, which it was giving
+-- up
 abbrev pub IsLeftOf : ℕ → Gate → List Touch → Bool → Type 0
 IsLeftOf number gate left waits = ((left ≡ gate.file) × (waits ≡ gate.waits))
     ⊎ ((touch : Touch) × IsAsked number gate touch × (left ≡ gate.file ++ touch ∷ [])
     × (waits ≡ true))
+    ⊎ ((touch : Touch) × IsWaitingAt gate touch × (left ≡ gate.file ++ touch ∷ [])
+    × (waits ≡ false))
 
 -- a gate ends or crashes, at any moment, or its disk fails; one that doesn't go on may crash too
 pub record GateStops (old new : Whole) : Type 0 where
@@ -172,7 +193,8 @@ pub record GateStops (old new : Whole) : Type 0 where
     });
   }
 
--- a gate is opened: the last touch waits, whether or not it was answered
+-- a gate is opened: the last touch waits, whether or not it was answered, and none where that was
+-- given up
 pub record GateOpens (old new : Whole) : Type 0 where
   pub number : ℕ
   pub kept : List Touch
@@ -181,7 +203,7 @@ pub record GateOpens (old new : Whole) : Type 0 where
     gates = with_gate old.gates number (record {
       file = kept;
       going = true;
-      waits = is_any kept;
+      waits = is_some (waiting_of kept);
       told = (old.gates number).told;
       refused = (old.gates number).refused;
     });
@@ -237,6 +259,7 @@ pub data Step (alone : ℕ → Bool) (cards : ℕ) (old new : Whole) : Type 0 wh
   others_send : OthersSend alone old new → Step alone cards old new
   hears : Hears old new → Step alone cards old new
   hears_fault : HearsFault old new → Step alone cards old new
+  gives_up : GivesUp old new → Step alone cards old new
   gate_stops : GateStops old new → Step alone cards old new
   gate_opens : GateOpens old new → Step alone cards old new
   enters : Enters cards old new → Step alone cards old new

@@ -1,7 +1,7 @@
 -- Steps of gates and their station that lack a condition of a step in specs/WholeSteps.antt, and
 -- what it means that the law doesn't hold with such a step (PROOFS.md, "A gate and its
 -- station").
-use Rattle.std.specs.Prelude.{◌≡◌, ◌⊎◌, ℕ, Bool, true, false, List, [], ◌∷◌, ◌++◌}
+use Rattle.std.specs.Prelude.{◌≡◌, ◌⊎◌, ℕ, Bool, true, false, List, [], ◌∷◌, ◌++◌, is_some}
 use Rattle.oyster_account.specs.declared.touch.Touch.{Touch}
 use Rattle.oyster_account.specs.declared.reply.Reply.{Reply}
 use Rattle.reply_book.specs.declared.entry.Entry.{Entry}
@@ -13,12 +13,15 @@ use Rattle.gate_session.specs.declared.answer.Answer.{Answer}
 use Rattle.gate_session.specs.declared.answer.Answer.TheVariants as answers
 use Rattle.gate_session.specs.declared.answer.FaultCode.{FaultCode}
 use Rattle.gate_session.specs.Answers.{fault_code}
-use Rattle.gate_law.specs.Premises.{Line, SameTables, TheLock}
+use Rattle.gate_client.specs.File.{waiting_of}
+use Rattle.gate_law.specs.Joint.{is_given_up}
+use Rattle.gate_law.specs.Premises.{Line, OneJournal, SameTables, TheLock}
 use Rattle.gate_law.specs.Whole.{Whole, with_gate, IsWaitingAt}
 use Rattle.gate_law.specs.WholeSteps.{Step, HearsFault, GateStops, GateOpens, Enters, Refuses}
 use Rattle.gate_law.specs.WholeSteps.{Tells}
 use Rattle.gate_law.specs.WholeSteps.{OthersSend, StationStops, StationOpens}
-use Rattle.gate_law.specs.WholeAgreement.{IsStart, AllAgree}
+use Rattle.gate_law.specs.WholeAgreement.{IsRun, IsStart, AllAgree}
+use Rattle.gate_law.specs.GivenUp.{IsLeftToItself}
 
 -- somebody writes the frame of a touch, under whichever number
 pub record AnybodySends (old new : Whole) : Type 0 where
@@ -109,6 +112,23 @@ pub record GateOpensIdle (old new : Whole) : Type 0 where
     });
   }
 
+-- a gate is opened: the last touch waits, and may wait also where it was given up
+pub record GateOpensAgain (old new : Whole) : Type 0 where
+  pub number : ℕ
+  pub kept : List Touch
+  pub waits : Bool
+  pub one_journal : OneJournal kept (old.gates number).file
+  pub last : is_some (waiting_of kept) ≡ true → waits ≡ true
+  pub is : new ≡ record old {
+    gates = with_gate old.gates number (record {
+      file = kept;
+      going = true;
+      waits = waits;
+      told = (old.gates number).told;
+      refused = (old.gates number).refused;
+    });
+  }
+
 -- a crash leaves any touches in the station's journal
 pub record StationLoses (old new : Whole) : Type 0 where
   pub left : List Touch
@@ -150,6 +170,7 @@ pub record AreWeaker (alone : ℕ → Bool) (cards : ℕ) (old new : Whole) : Ty
   pub gate_loses : GateStops old new → GateLoses old new
   pub opens_idle : (opens : GateOpens old new) → opens.kept ≡ (old.gates opens.number).file
       → GateOpensIdle old new
+  pub opens_again : GateOpens old new → GateOpensAgain old new
   pub station_loses : StationStops old new → StationLoses old new
   pub another_journal : StationOpens cards old new → StationOpensAnother cards old new
 
@@ -171,3 +192,23 @@ pub record DoesBreak (tables : Tables) (weaker : ℕ → Whole → Whole → Typ
   pub starts : IsStart alone cards first
   pub runs : IsRunWith (weaker cards) alone cards first between last
   pub differs : AllAgree alone cards last → ⊥
+
+-- with such a step beside the others, a run of a station of these tables goes on from where a gate
+-- has given up a touch to where that wasn't left to itself
+pub record DoesComeBack (tables : Tables) (weaker : ℕ → Whole → Whole → Type 0) : Type 0 where
+  pub alone : ℕ → Bool
+  pub cards : ℕ
+  pub gate : ℕ
+  pub number : ℕ
+  pub first : Whole
+  pub mid : Whole
+  pub last : Whole
+  pub before : List Whole
+  pub after : List Whole
+  pub by : first.station.tables ≡ tables
+  pub starts : IsStart alone cards first
+  pub is_alone : alone gate ≡ true
+  pub until : IsRun alone cards first before mid
+  pub given_up : is_given_up (mid.gates gate).file number ≡ true
+  pub runs : IsRunWith (weaker cards) alone cards mid after last
+  pub differs : IsLeftToItself gate number mid last → ⊥

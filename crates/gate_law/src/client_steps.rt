@@ -1,7 +1,7 @@
 //! The calls of a gate's client as steps of its gate. Each is the call of `gate_client` of that
 //! name, and answers what it answers.
-ghost use Rattle.std.specs.Prelude.{◌≡◌, ℕ, Bool, List, [], ◌∷◌, Some, IsSome, IfSome, IfOk, OnErr};
-ghost use Rattle.std.specs.Prelude.{false, None};
+ghost use Rattle.std.specs.Prelude.{◌≡◌, ◌≢◌, ℕ, Bool, List, [], ◌∷◌, ◌++◌, Some, IsSome};
+ghost use Rattle.std.specs.Prelude.{IfSome, IfOk, IfErr, OnOk, OnErr, false, None};
 ghost use Rattle.oyster_account.specs.declared.touch.Touch.{Touch};
 ghost use Rattle.oyster_account.specs.Touch.{Fits};
 ghost use Rattle.text_io.specs.Writing.{Wrote};
@@ -19,8 +19,9 @@ use std::alloc::Global;
 use std::io::{Read, Write};
 use tap_disk::{Choice, Disk, MemoryDisk};
 
-/// Keeps a touch: that is the step Asks, and no step where it isn't handed out. A crash at any
-/// moment of the call leaves what a crash of the gate may leave.
+/// Keeps a touch: that is the step Asks, and no step where it isn't handed out. Where the disk
+/// fails the gate ends, which is the step GateStops. A crash at any moment of the call leaves what
+/// a crash of the gate may leave.
 ///
 /// Each fault comes as `Client::ask` says.
 pub fn ask_in_steps<D: Disk>(client: &mut Client<D>, card: u32, act: Act) -> Result<Touch, AskFault>
@@ -77,9 +78,34 @@ pub fn hear_in_steps<D: Disk, R: Read>(
     client.hear(reader)
 }
 
+/// Gives up the touch that waits: that is the step GivesUp where it is given up. Where the disk
+/// fails the gate ends, which is the step GateStops, and no step is made otherwise. A crash at any
+/// moment of the call leaves what a crash of the gate may leave.
+///
+/// Each fault comes as `Client::give_up` says.
+pub fn give_up_in_steps<D: Disk>(client: &mut Client<D>) -> Result<(), AskFault>
+    requires { IsSome (waits_of client.old) }
+    ensures steps { (alone : ℕ → Bool) (cards number : ℕ) (whole : Whole)
+        → IsShownBy number (whole.gates number) client.old
+        → IsClientRun alone cards number whole client.new [] [] [] }
+    ensures crash { (number : ℕ) (whole : Whole) (t : Touch)
+        → IsShownBy number (whole.gates number) client.old → waits_of client.old ≡ Some t
+        → D.honest (disk_of client.new) → (c : List ℕ)
+        → D.outcome_since (disk_of client.new) (D.moment (disk_of client.old)) c
+        → IsInFile (header_in client.old) number (whole.gates number) c }
+
+    // What waited is kept once more where it is given up, and none waits.
+    ensures given_up { (asked : List Touch) (t : Touch) → HasAsked asked client.old
+        → waits_of client.old ≡ Some t → IfOk result (λ _. HasAsked (asked ++ t ∷ []) client.new) }
+    ensures none { OnOk result (waits_of client.new ≡ None) }
+    ensures kept { IfErr result (λ fault. fault ≢ AskFault.Device → client.new ≡ client.old) }
+{
+    client.give_up()
+}
+
 /// Opens the file that a crash or an end has left: the gate stops, and is opened, with its touches,
-/// or with one more, that it was being asked for. The last of them waits. One journal is proved
-/// here, from the disk's bytes.
+/// or with one more, that it was being asked for or was giving up. The last of them waits, where it
+/// isn't given up. One journal is proved here, from the disk's bytes.
 ///
 /// Each fault comes as `Client::open` says, with the disk.
 pub fn open_in_steps<D: Disk>(

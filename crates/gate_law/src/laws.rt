@@ -6,14 +6,15 @@ ghost use Rattle.gate_session.specs.declared.request.Request.{Request};
 ghost use Rattle.gate_session.specs.declared.answer.Answer.{Answer};
 ghost use Rattle.gate_law.specs.Joint.{Joint};
 ghost use Rattle.gate_law.specs.Agreement.{DoGateAndStationAgree};
+ghost use Rattle.gate_law.specs.GivenUp.{IsGivenUpForGood};
 ghost use Rattle.gate_law.specs.Lines.{DoLinesBringRequests, DoLinesBringAnswers, AreByLine};
 ghost use Rattle.gate_law.specs.Weaker.{AsksOutOfTurn, AsksByAnyNumber, AsksForAnother};
-ghost use Rattle.gate_law.specs.Weaker.{OpensIdle};
+ghost use Rattle.gate_law.specs.Weaker.{GivesUpAgain, GivesUpAnother, OpensIdle, OpensAgain};
 ghost use Rattle.gate_law.specs.Weaker.{HearsAnyNumber, HearsAnyGate, HearsUnasked};
 ghost use Rattle.gate_law.specs.Weaker.{EntersUnsent, HearsUnwritten, AnybodySends};
 ghost use Rattle.gate_law.specs.Weaker.{OpensAnother};
 ghost use Rattle.gate_law.specs.Weaker.{RestartsAnother, RestartsByOthers, EntersUnjudged};
-ghost use Rattle.gate_law.specs.Weaker.{AreUnlike, AreWeaker, DoesBreak};
+ghost use Rattle.gate_law.specs.Weaker.{AreUnlike, AreWeaker, DoesBreak, DoesComeBack};
 
 /// Whatever a gate and its station do, in whatever order, and whatever is lost between them or by
 /// a crash of either: what the gate keeps, what its caller was told and what stands in the
@@ -24,10 +25,17 @@ pub fn gate_and_station_agree()
     ensures { DoGateAndStationAgree }
 {}
 
-/// Each condition under which the gate keeps a touch or takes a reply is needed, and so is each
-/// premise: with a step beside the others that lacks it, some run ends where gate and station don't
-/// agree. That is so by any fare tables; of an opening with others, where those judge two touches
-/// of a gate otherwise.
+/// What the gate has given up is left alone, whatever happens then: it stays given up, no more of
+/// it is told to the caller, and the gate doesn't send it again. The station may have read it
+/// before, and may read an earlier copy of it later: at most once (`gate_and_station_agree`).
+pub fn a_gate_leaves_what_it_gave_up()
+    ensures { IsGivenUpForGood }
+{}
+
+/// Each condition under which the gate keeps a touch, gives it up or takes a reply is needed, and
+/// so is each premise: with a step beside the others that lacks it, some run ends where gate and
+/// station don't agree, or where what was given up was told. That is so by any fare tables; of an
+/// opening with others, where those judge two touches of a gate otherwise.
 pub fn none_is_idle()
     // Each of these steps is a step of the law, but for what it lacks.
     ensures weaker { (gate cards : ℕ) (old new : Joint) → AreWeaker gate cards old new }
@@ -36,7 +44,10 @@ pub fn none_is_idle()
     ensures out_of_turn { (tables : Tables) → DoesBreak tables (λ gate cards. AsksOutOfTurn gate) }
     ensures any_number { (tables : Tables) → DoesBreak tables (λ gate cards. AsksByAnyNumber gate) }
     ensures for_another { (tables : Tables) → DoesBreak tables (λ gate cards. AsksForAnother) }
+    ensures gives_up_again { (tables : Tables) → DoesBreak tables (λ gate cards. GivesUpAgain) }
+    ensures gives_up_another { (tables : Tables) → DoesBreak tables (λ gate cards. GivesUpAnother) }
     ensures opens_idle { (tables : Tables) → DoesBreak tables (λ gate cards. OpensIdle) }
+    ensures opens_again { (tables : Tables) → DoesComeBack tables (λ gate cards. OpensAgain) }
     ensures another_number { (tables : Tables) → DoesBreak tables (λ gate cards. HearsAnyNumber) }
     ensures another_gate { (tables : Tables) → DoesBreak tables (λ gate cards. HearsAnyGate) }
     ensures unasked { (tables : Tables) → DoesBreak tables (λ gate cards. HearsUnasked) }

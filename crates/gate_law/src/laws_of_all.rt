@@ -3,10 +3,12 @@ ghost use Rattle.std.specs.Prelude.{ℕ, Bool};
 ghost use Rattle.reply_book.specs.Tables.{Tables};
 ghost use Rattle.gate_law.specs.Whole.{Whole};
 ghost use Rattle.gate_law.specs.WholeAgreement.{DoAllAgree, IsEachARun};
+ghost use Rattle.gate_law.specs.GivenUp.{IsEachGivenUpForGood};
 ghost use Rattle.gate_law.specs.WholeWeaker.{AnybodySends, EntersUnsynced, RefusesForNothing};
 ghost use Rattle.gate_law.specs.WholeWeaker.{TellsAnything, HearsUnwrittenFault, GateLoses};
-ghost use Rattle.gate_law.specs.WholeWeaker.{GateOpensIdle, StationLoses, StationOpensAnother};
-ghost use Rattle.gate_law.specs.WholeWeaker.{AreWeaker, DoesBreak};
+ghost use Rattle.gate_law.specs.WholeWeaker.{GateOpensIdle, GateOpensAgain, StationLoses};
+ghost use Rattle.gate_law.specs.WholeWeaker.{StationOpensAnother, AreWeaker, DoesBreak};
+ghost use Rattle.gate_law.specs.WholeWeaker.{DoesComeBack};
 ghost use Rattle.gate_law.specs.Machine.{IsEachStepAtomic, IsEachRunOfMachine};
 
 /// Whatever gates and their station do, in whatever order, and whatever is lost between them or by
@@ -26,6 +28,13 @@ pub fn each_gate_is_a_run()
     ensures { IsEachARun }
 {}
 
+/// What a gate that has its number to itself has given up is left alone, whatever gates and station
+/// do then: it stays given up through each crash, no more of it is told to the caller, neither a
+/// reply nor a fault, and the gate doesn't send it again.
+pub fn gates_leave_what_they_gave_up()
+    ensures { IsEachGivenUpForGood }
+{}
+
 /// Gates and their station are one account machine, which is asked one touch at a time and gives
 /// its reply at once.
 ///
@@ -33,15 +42,17 @@ pub fn each_gate_is_a_run()
 /// every run the history is the machine's: each touch with the account's judgement after the
 /// touches before it. What a gate's caller was told is a part of the replies that the machine gave
 /// to that gate, and these reply to the touches in the gate's file in their order, to all of them
-/// or to all but the last, which waits.
+/// or to all but the last, which waits. To a touch that the gate has given up the machine gave a
+/// reply or none, at any place.
 pub fn one_machine_answers()
     ensures atomic { IsEachStepAtomic }
     ensures runs { IsEachRunOfMachine }
 {}
 
 /// Each condition of a step that the law over one gate doesn't have is needed: with a step beside
-/// the others that lacks it, some run ends where not all agree. That is so by any fare tables.
-/// `none_is_idle` has the conditions that both laws have.
+/// the others that lacks it, some run ends where not all agree, or where a fault was told of what
+/// was given up. That is so by any fare tables. `none_is_idle` has the conditions that both laws
+/// have.
 pub fn no_condition_is_idle()
     // Each of these steps is a step of the law, but for what it lacks.
     ensures weaker { (alone : ℕ → Bool) (cards : ℕ) (old new : Whole)
@@ -52,6 +63,7 @@ pub fn no_condition_is_idle()
     ensures station_loses { (tables : Tables) → DoesBreak tables (λ cards. StationLoses) }
     ensures unsynced { (tables : Tables) → DoesBreak tables EntersUnsynced }
     ensures opens_idle { (tables : Tables) → DoesBreak tables (λ cards. GateOpensIdle) }
+    ensures opens_again { (tables : Tables) → DoesComeBack tables (λ cards. GateOpensAgain) }
     ensures another_journal { (tables : Tables) → DoesBreak tables StationOpensAnother }
 
     // That each fault has its cause, and was written.

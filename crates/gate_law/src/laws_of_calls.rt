@@ -1,7 +1,8 @@
 //! Laws of the calls of a gate and of a session, each the contract of a call that does nothing:
 //! which steps of `gate_law` they are.
 ghost use Rattle.gate_law.specs.Calls.{IsAsking, IsSending, IsSendingInPart, IsHearing};
-ghost use Rattle.gate_law.specs.Calls.{IsOpening, IsOpeningAfterAsking};
+ghost use Rattle.gate_law.specs.Calls.{IsGivingUp, IsOpening, IsOpeningAfterAsking};
+ghost use Rattle.gate_law.specs.Calls.{IsOpeningAfterGivingUp};
 ghost use Rattle.gate_law.specs.Station.{KeepsStation, station_of};
 ghost use Rattle.gate_law.specs.Sessions.{AreSessionsRuns};
 ghost use Rattle.gate_law.specs.Settled.{HasLegal, DoesStart};
@@ -37,11 +38,18 @@ pub fn hearing_is_a_step<D: Disk>(old: &Client<D>, new: &Client<D>)
     ensures { IsHearing old.now new.now }
 {}
 
+/// What `Client::give_up` leaves where it returns Ok is the step GivesUp.
+pub fn giving_up_is_a_step<D: Disk>(old: &Client<D>, new: &Client<D>)
+    ensures { IsGivingUp old.now new.now }
+{}
+
 /// What `Client::open` makes of the file of the touches that were kept is the step Opens. Behind a
-/// crash at any moment of `Client::ask` it is Opens alone, or Asks and then Opens.
+/// crash at any moment of `Client::ask` it is Opens alone, or Asks and then Opens, and behind one
+/// of `Client::give_up` Opens alone, or GivesUp and then Opens.
 pub fn opening_is_a_step<D: Disk>(old: &Client<D>, opened: &Client<D>)
     ensures kept { IsOpening opened.now }
     ensures after_asking { IsOpeningAfterAsking old.now opened.now }
+    ensures after_giving_up { IsOpeningAfterGivingUp old.now opened.now }
 {}
 
 /// Each session of a clerk who does what a station does is a run of the steps Enters, Answers and

@@ -17,14 +17,19 @@ mod round;
 
 pub use at_once::settle_at_once;
 pub use book_clerk::BookClerk;
-pub use client_steps::{ask_in_steps, crash_in_steps, hear_in_steps, open_in_steps, send_in_steps};
-pub use laws::{gate_and_station_agree, lines_bring_the_first, none_is_idle};
+pub use client_steps::{
+    ask_in_steps, crash_in_steps, give_up_in_steps, hear_in_steps, open_in_steps, send_in_steps,
+};
+pub use laws::{
+    a_gate_leaves_what_it_gave_up, gate_and_station_agree, lines_bring_the_first, none_is_idle,
+};
 pub use laws_of_all::{
-    each_gate_is_a_run, every_gate_agrees, no_condition_is_idle, one_machine_answers,
+    each_gate_is_a_run, every_gate_agrees, gates_leave_what_they_gave_up, no_condition_is_idle,
+    one_machine_answers,
 };
 pub use laws_of_calls::{
-    a_gate_leaves_the_others, asking_is_a_step, books_keep_stations, hearing_is_a_step,
-    new_clients_are_blank, new_ones_start, opening_is_a_step, ready_books_reply, sending_is_a_step,
-    sessions_are_runs,
+    a_gate_leaves_the_others, asking_is_a_step, books_keep_stations, giving_up_is_a_step,
+    hearing_is_a_step, new_clients_are_blank, new_ones_start, opening_is_a_step, ready_books_reply,
+    sending_is_a_step, sessions_are_runs,
 };
 pub use round::{Carried, SettleFault, TouchFault, ask_and_settle, settle};

@@ -4,6 +4,7 @@
 //! A client or station is let go of by a call of `drop`: a function in which one goes out of scope
 //! takes longer to prove.
 mod books;
+mod giving_up;
 mod rounds;
 mod station;
 

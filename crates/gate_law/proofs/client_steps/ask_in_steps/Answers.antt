@@ -4,7 +4,7 @@ use Rattle.gate_client.specs.declared.fault.AskFault.{AskFault}
 use Rattle.gate_client.specs.declared.fault.AskFault.TheVariants as faults
 use Rattle.gate_client.specs.Client.{HasAsked, waits_of, header_in}
 use Rattle.gate_law.proofs.ClientLemmas.{left-either, when_ok, when_err, when_fault}
-use Rattle.gate_law.proofs.ClientRunLemmas.{asks-run}
+use Rattle.gate_law.proofs.AskingRunLemmas.{asks-run}
 use Rattle.gate_law.proofs.client_steps.ask_in_steps.Goals as goal
 
 pub returns-clause-steps : goal.returns-clause-steps
@@ -33,5 +33,5 @@ returns-clause-crash g c number whole shown going none honest content out =
     let old = c.args.client.now in
     let gate = whole.gates number in
     left-either number gate old (header_in old) c.args.card c.args.act content shown.number_is
-    (shown.waits ∙ ap is_some none)
+    ((shown.goes going).waits ∙ ap is_some none)
     ((c.ask.ensures.any_moment gate.file shown.asked going honest).each content out)

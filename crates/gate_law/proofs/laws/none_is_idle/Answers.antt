@@ -1,5 +1,6 @@
 use Rattle.gate_law.proofs.WeakerLemmas as runs
 use Rattle.gate_law.proofs.OtherLemmas as others
+use Rattle.gate_law.proofs.GivingUpRuns as givings_up
 use Rattle.gate_law.proofs.PremiseLemmas as premises
 use Rattle.gate_law.proofs.TablesLemmas.{same_tables}
 use Rattle.gate_law.proofs.laws.none_is_idle.Goals as goal
@@ -12,6 +13,15 @@ returns-clause-any_number c = runs.any_number
 
 pub returns-clause-opens_idle : goal.returns-clause-opens_idle
 returns-clause-opens_idle c = runs.opens_idle
+
+pub returns-clause-gives_up_again : goal.returns-clause-gives_up_again
+returns-clause-gives_up_again c = givings_up.gives_up_again
+
+pub returns-clause-gives_up_another : goal.returns-clause-gives_up_another
+returns-clause-gives_up_another c = givings_up.gives_up_another
+
+pub returns-clause-opens_again : goal.returns-clause-opens_again
+returns-clause-opens_again c = givings_up.opens_again
 
 pub returns-clause-another_number : goal.returns-clause-another_number
 returns-clause-another_number c = runs.another_number

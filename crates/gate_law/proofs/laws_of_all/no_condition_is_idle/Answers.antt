@@ -1,5 +1,6 @@
 use Rattle.gate_law.proofs.WholeWeakerLemmas as runs
 use Rattle.gate_law.proofs.WholeFaultLemmas as faults
+use Rattle.gate_law.proofs.WholeGivingUpRuns as givings_up
 use Rattle.gate_law.proofs.laws_of_all.no_condition_is_idle.Goals as goal
 
 pub returns-clause-weaker : goal.returns-clause-weaker
@@ -16,6 +17,9 @@ returns-clause-unsynced c = runs.unsynced
 
 pub returns-clause-opens_idle : goal.returns-clause-opens_idle
 returns-clause-opens_idle c = runs.opens_idle
+
+pub returns-clause-opens_again : goal.returns-clause-opens_again
+returns-clause-opens_again c = givings_up.opens_again
 
 pub returns-clause-another_journal : goal.returns-clause-another_journal
 returns-clause-another_journal c = runs.another_journal
