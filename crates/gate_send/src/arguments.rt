@@ -34,8 +34,15 @@ Example, gate 7 makes its file if there is none, and a card is issued and topped
 Example, what waits from before, by two stations of one journal:
   gate_send --gate 7 --file gate7.touches --resend 192.168.1.10:7040 192.168.1.11:7040
 
+Example, what waits is refused each time by a fault, and the station's staff agree to give it up:
+  gate_send --gate 7 --file gate7.touches --give-up 192.168.1.10:7040
+
 Statuses: 0 each line is answered, 1 a fault or a line that asks for nothing (reported on standard
 error; a touch that was kept waits in the file), 2 a wrong command line";
+
+/// What is said of the option `give-up`.
+const GIVE_UP_HELP: &str = "Sends what waits from before alone, and reads no line. If the
+answer is fault 2, 5, 6 or 7, gives it up: it is never sent again";
 
 /// What is said of the option `tries`.
 const TRIES_HELP: &str = "Ends after so many tries of a request, from 1 to 1000000;
@@ -86,7 +93,10 @@ pub(crate) struct Arguments<'a> {
     pub(crate) capacity: u32,
     /// Whether what waits is sent alone, and no line is read.
     pub(crate) resends: bool,
-    /// How often a touch is tried, where it is ever given up.
+    /// Whether what waits is sent alone, given up where the answer is a fault that repeats don't
+    /// change, and no line is read.
+    pub(crate) gives_up: bool,
+    /// How often a request is tried, where the tries ever end.
     pub(crate) tries: Option<u32>,
     /// How many milliseconds a connection, a read or a write may take.
     pub(crate) timeout: u32,
@@ -143,6 +153,7 @@ fn asked<'a>(matches: &ArgMatches<'a>, addresses: Vec<&'a str>) -> Option<Argume
         is_new: matches.get_flag("new"),
         capacity,
         resends: matches.get_flag("resend"),
+        gives_up: matches.get_flag("give-up"),
         tries,
         timeout,
         pause,
@@ -202,6 +213,11 @@ fn with_tries<'a>(alloc: Global, command: Command<'a>) -> Result<Command<'a>, Al
     let command = command.arg(flag(alloc, "resend").help(
         "Sends what waits from before alone, and reads no line",
     ))?;
+    let command = command.arg(
+        flag(alloc, "give-up")
+            .help(GIVE_UP_HELP)
+            .conflicts_with("resend")?,
+    )?;
     let command = command.arg(
         number(alloc, "tries", 1, TRIES_LIMIT)
             .value_name("N")

@@ -7,7 +7,8 @@ use crate::fault::{Detail, SendFault};
 use crate::file::{file_named, system_said};
 use crate::station::TcpStation;
 use gate_client::{
-    AskFault, Asked, Client, HoldingTold, Line, Told, ask_after, asked_by, enquired_by, settle,
+    AskFault, Asked, Client, GivenUpTold, HoldingTold, Line, Told, ask_after, asked_by,
+    enquired_by, settle,
 };
 use oyster_account::Touch;
 use std::alloc::Global;
@@ -56,7 +57,7 @@ impl<R> Drop for Run<'_, R> {
 }
 
 /// Settles the touch that waits, where one does, and then asks for, settles and tells what each
-/// line of the input asks for, unless what waits was to be sent alone.
+/// line of the input asks for, unless what waits was to be sent alone, or to be given up.
 pub(crate) fn send_lines<
     R: AllocGlobal
         + Input
@@ -75,9 +76,13 @@ pub(crate) fn send_lines<
         line: None,
     };
     if let Some(touch) = run.client.waiting() {
-        run.settle(&touch)?;
+        if asked.gives_up {
+            run.settle_or_give_up(&touch)?;
+        } else {
+            run.settle(&touch)?;
+        }
     }
-    if asked.resends {
+    if asked.resends || asked.gives_up {
         Ok(Sent::All)
     } else {
         run.lines()
@@ -185,6 +190,35 @@ impl<
                 self.rt.println(&told).map_err(|_| SendFault::Write)
             }
             Err(fault) => Err(SendFault::Settle(fault, self.waits(touch))),
+        }
+    }
+
+    /// Settles the touch that waits, and tells its reply; or gives it up, and tells that, where the
+    /// station answers by a fault that repeats don't change.
+    fn settle_or_give_up(&mut self, touch: &Touch) -> Result<(), SendFault> {
+        match self.settle(touch) {
+            Err(SendFault::Settle(fault, detail)) => {
+                if fault.is_answer() {
+                    self.give_up(touch)
+                } else {
+                    Err(SendFault::Settle(fault, detail))
+                }
+            }
+            settled => settled,
+        }
+    }
+
+    /// Gives up the touch that waits, and tells it.
+    fn give_up(&mut self, touch: &Touch) -> Result<(), SendFault> {
+        if self.client.waiting().is_none() {
+            return Ok(());
+        }
+        match self.client.give_up() {
+            Ok(()) => {
+                let told = GivenUpTold { touch: *touch };
+                self.rt.println(&told).map_err(|_| SendFault::Write)
+            }
+            Err(fault) => Err(SendFault::Ask(fault, self.ask_detail(fault))),
         }
     }
 
