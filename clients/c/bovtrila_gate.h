@@ -12,6 +12,7 @@
        bovtrila_create     once, where the gate is installed: makes the gate's file
        bovtrila_open       at each start; then bovtrila_resend, until nothing waits
        bovtrila_touch_in   and the other calls, one for each thing that happens
+       bovtrila_give_up    where the server can't accept a touch, so that the next one can be asked for
        bovtrila_close      at the end; a gate that just loses its power loses nothing
 
    The rules for whoever calls:
@@ -23,7 +24,8 @@
      the two, the next start returns the same reply again.
    - One touch waits at a time. A call that ended without a reply leaves its touch waiting, in the file: whoever wants
      to know what came of it calls bovtrila_resend. A passenger who holds the card up again meanwhile is still of that
-     touch: once it is settled, calling bovtrila_touch_in again would report a second one.
+     touch: once it is settled, calling bovtrila_touch_in again would report a second one. Only a reply ends the waiting,
+     or bovtrila_give_up.
    - One gate number has one file, and one file one gate number. A gate whose file is lost takes a number that no gate
      of the station has had, and makes a new file. Never copy a file back from a backup: its numbers were used since.
    - A gate is used by one thread at a time. Several gates may be used by as many threads: they share nothing. Only
@@ -77,15 +79,17 @@ enum bovtrila_result {
     BOVTRILA_EARLIER_SETTLED = 7, /* an earlier touch waited, and this call settled it: bovtrila_settled has its reply.
                                      Look at it, and call again if this touch is still wanted */
     BOVTRILA_EARLIER_WAITS = 8,   /* an earlier touch waits: this call sent it again in vain, or was cancelled */
-    BOVTRILA_NO_ROOM = 9,         /* the gate's file has no room. Go on with another gate number and a new file */
+    BOVTRILA_NO_ROOM = 9,         /* the gate's file has no room. Go on with another gate number and a new file. Of
+                                     bovtrila_give_up: the touch still waits */
     BOVTRILA_STOPPED = 10,        /* an earlier call answered BOVTRILA_DEVICE: close the gate, and open it again */
     BOVTRILA_MISUSE = 11,         /* a pointer is NULL */
 
     /* The gate's file could not be written, and nothing was sent. The touch is in the file, or it isn't: close the gate
-       and open it again, and bovtrila_waiting tells. */
+       and open it again, and bovtrila_waiting tells. Of bovtrila_give_up: after the opening the touch waits, or it is
+       given up. */
     BOVTRILA_DEVICE = 12,
 
-    /* bovtrila_resend had nothing to send, or bovtrila_hear nothing to hear of. */
+    /* bovtrila_resend had nothing to send, bovtrila_hear nothing to hear of, or bovtrila_give_up nothing to give up. */
     BOVTRILA_NONE_WAITS = 13,
 
     /* Of bovtrila_ask alone: the touch is in the file, and waits. Nothing was sent. */
@@ -97,11 +101,19 @@ enum bovtrila_result {
 
     /* bovtrila_cancel ended the call. As after BOVTRILA_NO_ANSWER the touch waits: it is in the gate's file, and may be in
        the station's history or not. Keep the barrier closed. After an enquiry nothing waits. */
-    BOVTRILA_CANCELLED = 16
+    BOVTRILA_CANCELLED = 16,
+
+    /* Of bovtrila_give_up alone: the touch is given up. The file has that, and is synced. */
+    BOVTRILA_GIVEN_UP = 17,
+
+    /* Of bovtrila_give_up alone: the last send of the touch wasn't answered by one of the faults after which a touch may be
+       given up. The touch still waits: call bovtrila_resend. */
+    BOVTRILA_NOT_GIVEN_UP = 18
 };
 
 /* The server's faults, by their numbers. A fault doesn't show that the touch was recorded, and after each of them the
-   touch waits. A number that is not listed is kept for later versions: treat it as BOVTRILA_FAULT_HALTED. */
+   touch waits. After CONFLICT, FULL, UNKNOWN_TABLE and NOT_ALLOWED it may be given up (bovtrila_give_up). A number that is
+   not listed is kept for later versions: treat it as BOVTRILA_FAULT_HALTED. */
 enum bovtrila_fault {
     /* generated: faults */
     BOVTRILA_FAULT_BAD_FRAME = 1,     /* what came is no request: something on the way, or this library, is broken */
@@ -152,7 +164,8 @@ enum bovtrila_kind {
 /* A touch as the gate's file has it. What its kind doesn't have is 0. */
 typedef struct bovtrila_touch {
     enum bovtrila_kind kind;
-    uint32_t number;              /* 1 for the first touch of the file, and so on */
+    uint32_t number;              /* 1 for the first touch of the file, and so on; the number that follows the one of a
+                                     given-up touch is left out */
     uint32_t card;
     uint32_t moment;
     uint32_t pence;               /* of a top-up */
@@ -191,7 +204,8 @@ enum bovtrila_file_cause {
     BOVTRILA_FILE_BAD_LIMIT = 11,     /* the capacity or the number of cards in its header can't be */
     BOVTRILA_FILE_ANOTHER = 12,       /* the file of another gate, or a station's journal */
     BOVTRILA_FILE_DAMAGED = 13,       /* slot `place` (from 0) is cut short, or holds no touch */
-    BOVTRILA_FILE_FOREIGN = 14,       /* the touch in slot `place` isn't this gate's of the number `place` + 1 */
+    BOVTRILA_FILE_FOREIGN = 14,       /* the touch in slot `place` isn't this gate's of the number `place` + 1, and doesn't
+                                         give up the one before it */
     BOVTRILA_FILE_OLD_TAG = 15,       /* this gate's file, made by a version of this library before 1.1. It is looked for
                                          before BOVTRILA_FILE_ANOTHER. docs/reference/GATE_LIBRARY.md, "To change an old file
                                          over", has the commands that make it a file of today with the same touches */
@@ -240,9 +254,9 @@ typedef struct bovtrila_gate bovtrila_gate;
 bovtrila_file bovtrila_create(const char *file, uint16_t gate, uint32_t capacity) BOVTRILA_LOOK_AT;
 
 /* Opens a gate. It reads the file, looks the addresses up and connects to nothing. `*gate` is the gate, or NULL where
-   the cause isn't BOVTRILA_FILE_OK. If the file has touches, the last one waits, unless bovtrila_done has marked it: else
-   nothing shows whether the caller has acted on its reply. A repeat of an answered touch gets its first reply, and
-   charges nothing. */
+   the cause isn't BOVTRILA_FILE_OK. If the file has touches, the last one waits, unless it is given up or bovtrila_done
+   has marked it: else nothing shows whether the caller has acted on its reply. A repeat of an answered touch gets its first
+   reply, and charges nothing. */
 bovtrila_file bovtrila_open(const bovtrila_options *options, bovtrila_gate **gate) BOVTRILA_LOOK_AT;
 
 /* Closes a gate, and frees it. What waits is in the file. NULL is let pass. */
@@ -303,6 +317,26 @@ int bovtrila_clear_cancel(bovtrila_gate *gate);
    bovtrila_last_error, or where nothing was settled since the gate was opened. */
 int bovtrila_done(bovtrila_gate *gate);
 
+/* Gives up the touch that waits, which the server can't accept: it is never sent again, also after each later opening, and
+   the next touch can be asked for. The call is allowed if the last send of the touch was answered by one of the faults
+   BOVTRILA_FAULT_CONFLICT, _FULL, _UNKNOWN_TABLE and _NOT_ALLOWED, also inside a call that returned BOVTRILA_EARLIER_WAITS.
+
+   - Keep the barrier closed, and send the passenger to the staff.
+   - An earlier send of the touch may be in the station's history, at most once. Its reply is never returned. Give a top-up's
+     money back only after the staff have looked for the gate and the number in the history.
+   - After no answer, and after any other fault, the touch may be recorded: call bovtrila_resend instead, until it ends by a
+     reply or by one of these faults. The same holds after a start of the gate.
+   - A gate with lines of its own calls it before it sends the frame again. An answer that comes later answers no other touch:
+     bovtrila_hear returns BOVTRILA_STRAY for it.
+   - It sends nothing, and waits for nothing but the disk: bovtrila_cancel makes no difference to it.
+   - bovtrila_settled and bovtrila_done are about the touch that was settled last, as ever. A given-up touch isn't settled.
+   - It takes one more slot of the file, and the number that follows the touch's own is never used.
+
+   The result is BOVTRILA_GIVEN_UP, or the first of these causes: BOVTRILA_MISUSE, BOVTRILA_STOPPED, BOVTRILA_NONE_WAITS;
+   BOVTRILA_NOT_GIVEN_UP and BOVTRILA_NO_ROOM, after which the touch still waits; and BOVTRILA_DEVICE, after which nothing
+   waits until the gate is opened again. `number` is that of the touch, where one waited. */
+bovtrila_answer bovtrila_give_up(bovtrila_gate *gate) BOVTRILA_LOOK_AT;
+
 /* The five calls below are for a gate with lines of its own, as through TLS or in a loop of events. They connect to
    nothing, and wait for nothing but the disk. The rules are the same: the caller sends the frame that waits, over
    another connection after each but a whole answer, and waits between repeats (docs/reference/PROTOCOL.md, "When to repeat, and
@@ -339,7 +373,7 @@ int bovtrila_waiting(const bovtrila_gate *gate, bovtrila_touch *touch);
 /* The touch that was settled last since the gate was opened, with its reply. */
 bovtrila_settlement bovtrila_settled(const bovtrila_gate *gate);
 
-/* How many more touches the file takes. */
+/* How many more touches the file takes. One that is given up takes the room of two. */
 uint32_t bovtrila_room(const bovtrila_gate *gate);
 
 /* The errno of the last call of the system on the files or on a connection that failed since the gate was opened, for a

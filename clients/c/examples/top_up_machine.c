@@ -3,6 +3,7 @@
 
        top_up_machine --create FILE GATE CAPACITY          once, where the machine is installed
        top_up_machine FILE GATE HOST:PORT..
+       top_up_machine --give-up FILE GATE HOST:PORT..      for the staff: where the server can't accept the top-up that waits
 
    A line "17 2000" on standard input is a card and the pence that lie in the machine's tray: card 17, 20 pounds. */
 #include <stdio.h>
@@ -55,27 +56,58 @@ static int settle(bovtrila_gate *gate)
     return is_settled;
 }
 
-int main(int argc, char **argv)
+/* Asks once more, and gives the top-up up where the server still can't accept it. An earlier send of it may have been
+   recorded: the money isn't given back before the staff have looked. */
+static int give_up(bovtrila_gate *gate)
+{
+    bovtrila_touch touch = {0};
+
+    if (settle(gate)) {
+        printf("nothing waits\n");
+        return 0;
+    }
+    bovtrila_waiting(gate, &touch);
+    bovtrila_answer answer = bovtrila_give_up(gate);
+    if (answer.result == BOVTRILA_GIVEN_UP)
+        printf("given up: number %lu, card %lu, %lu pence: give the money back if the history doesn't have it\n",
+               (unsigned long)touch.number, (unsigned long)touch.card, (unsigned long)touch.pence);
+    else
+        printf("%s: number %lu\n", bovtrila_result_text(answer.result), (unsigned long)touch.number);
+    return answer.result != BOVTRILA_GIVEN_UP;
+}
+
+static bovtrila_gate *open_gate(const char *file, const char *number, char **addresses, int count)
 {
     bovtrila_options options = {0};
     bovtrila_gate *gate;
+
+    options.size = sizeof options;
+    options.file = file;
+    options.gate = (uint16_t)atoi(number);
+    options.addresses = (const char *const *)addresses;
+    options.address_count = (size_t)count;
+    bovtrila_file said = bovtrila_open(&options, &gate);
+    if (said.cause != BOVTRILA_FILE_OK)
+        fprintf(stderr, "%s: %s\n", file, bovtrila_file_text(said.cause));
+    return gate;
+}
+
+int main(int argc, char **argv)
+{
     unsigned long card, pence;
 
     if (argc == 5 && strcmp(argv[1], "--create") == 0)
         return bovtrila_create(argv[2], (uint16_t)atoi(argv[3]), (uint32_t)atol(argv[4])).cause != BOVTRILA_FILE_OK;
-    if (argc < 4)
+    int gives_up = argc > 1 && strcmp(argv[1], "--give-up") == 0, status = 0;
+    if (argc < 4 + gives_up)
         return 2;
-    options.size = sizeof options;
-    options.file = argv[1];
-    options.gate = (uint16_t)atoi(argv[2]);
-    options.addresses = (const char *const *)argv + 3;
-    options.address_count = (size_t)argc - 3;
-    bovtrila_file file = bovtrila_open(&options, &gate);
-    if (file.cause != BOVTRILA_FILE_OK) {
-        fprintf(stderr, "%s: %s\n", argv[1], bovtrila_file_text(file.cause));
+    argv += gives_up;
+    bovtrila_gate *gate = open_gate(argv[1], argv[2], argv + 3, argc - gives_up - 3);
+    if (gate == NULL)
         return 1;
-    }
-    while (scanf("%lu %lu", &card, &pence) == 2) {
+    if (gives_up)
+        status = give_up(gate);
+    while (!gives_up && scanf("%lu %lu", &card, &pence) == 2) {
         if (!settle(gate)) {
             printf("given back: out of order\n");
             fflush(stdout);
@@ -85,5 +117,5 @@ int main(int argc, char **argv)
         end(gate, bovtrila_top_up(gate, (uint32_t)card, (uint32_t)pence, (uint32_t)time(NULL)));
     }
     bovtrila_close(gate);
-    return 0;
+    return status;
 }

@@ -9,8 +9,8 @@
        asker null                      what every call answers to NULL
 
    A line asks one thing: "in CARD STATION MOMENT", "out CARD STATION MOMENT", "top-up CARD PENCE MOMENT",
-   "issue CARD MOMENT", "revise DIGEST DAY MOMENT", "enquire CARD", "resend", "waiting", "settled", "room", "error",
-   "done", "cancel", "clear".
+   "issue CARD MOMENT", "revise DIGEST DAY MOMENT", "enquire CARD", "resend", "give-up", "waiting", "settled", "room",
+   "error", "done", "cancel", "clear".
    With lines of its own: "keep-in CARD STATION MOMENT" and so on for the other touches, "frame", and "hear DIGITS";
    "enquiry CARD" and "hear-enquiry DIGITS".
    Each is answered by a line of numbers: of a touch "RESULT NUMBER VERDICT FAULT CHANGE BALANCE", of an enquiry "RESULT
@@ -212,7 +212,7 @@ static void ask_nothing(void)
            bovtrila_hear(NULL, NULL, 0).result);
     printf("%d %lu %d ", bovtrila_done(NULL), (unsigned long)bovtrila_enquiry(1, NULL),
            bovtrila_hear_enquiry(NULL, 1).result);
-    printf("%d %d\n", bovtrila_cancel(NULL), bovtrila_clear_cancel(NULL));
+    printf("%d %d %d\n", bovtrila_cancel(NULL), bovtrila_clear_cancel(NULL), bovtrila_give_up(NULL).result);
 }
 
 /* The words for each code: a line each. */
@@ -257,8 +257,8 @@ static void ask(bovtrila_gate *gate, char **words)
         tell(revise(gate, words[1], words[2], words[3]));
     else if (strcmp(words[0], "enquire") == 0)
         tell_holding(bovtrila_enquire(gate, number(words[1])));
-    else if (strcmp(words[0], "resend") == 0)
-        tell(bovtrila_resend(gate));
+    else if (strcmp(words[0], "resend") == 0 || strcmp(words[0], "give-up") == 0)
+        tell(strcmp(words[0], "resend") == 0 ? bovtrila_resend(gate) : bovtrila_give_up(gate));
     else if (strncmp(words[0], "keep-", 5) == 0)
         tell(keep(gate, words[0] + 5, words));
     else if (strcmp(words[0], "frame") == 0 || strcmp(words[0], "enquiry") == 0)
