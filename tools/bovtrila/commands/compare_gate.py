@@ -16,14 +16,17 @@ the journals' touches of this gate, in their order, and then those for touches o
     twice   the journals have its number a second time
     lacks   the file has this touch, and no journal has its number
     waits   the same for the last touch of the file. If it waits for its reply, this is no fault
+    given-up
+            the gate gave this touch up. The line has its place in a journal, or `no journal has this number`: neither is
+            a fault. The gate never uses the next number: a journal's touch with that number is `more`
 
 The last line has the counts: how many touches the file has, how many touches of this gate the journals have, how many
 of these are the same in both, and how many of each finding. With --csv the findings are comma-separated values with
 a heading, as in a history, and the counts are on standard error.
 
-The status is 0 if there is no finding, or only `waits`; 1 if something differs; and 2 for a wrong command line, or for
-a file that can't be read or isn't valid, such as one with a damaged slot. Then a line on standard error names the file,
-and there are no counts.
+The status is 0 if there is no finding, or only `waits` and `given-up`; 1 if something differs; and 2 for a wrong command
+line, or for a file that can't be read or isn't valid, such as one with a damaged slot. Then a line on standard error
+names the file, and there are no counts.
 
     bovtrila-compare-gate gate-7.file copy.journal
     bovtrila-compare-gate gate-7.file station.journal station-20261129.journal
@@ -49,7 +52,9 @@ CAPACITY, CARDS = 1_000_000, 100_000
 # How many slots are read at a time.
 SLOTS = 4096
 SIZES = {kind: size for kind, size in wire.REQUESTS.items() if kind != codec.ENQUIRE}
-FINDINGS = ("other", "more", "order", "twice", "lacks", "waits")
+FINDINGS = ("other", "more", "order", "twice", "lacks", "waits", "given-up")
+# Those that are no difference.
+HARMLESS = ("waits", "given-up")
 HEADING = ("finding", "number", "card", "act", "station", "pence", "day", "moment", "journal", "place", "note")
 
 
@@ -120,15 +125,31 @@ class GateFile(Journal):
             raise Wrong(f"{path}: this is no gate's file; name that first, and then the journals")
         # The slots that were read last, and the place of the first of them.
         self.first, self.piece = -SLOTS, b""
+        # For each number 1 if its touch is given up: the next slot has it once more. One number more than there are slots.
+        self.given_up = bytearray(1)
         self.look_through(0)
 
     def look_through(self, first: int) -> None:
-        """Whether the touches from a place on are this gate's, numbered by their places."""
+        """Whether the touches from a place on are this gate's, numbered by their places, or give up the ones before them."""
+        self.given_up += bytes(self.count - first)
+        before = self.slots(first - 1, first) if first else b""
         for first, piece in self.pieces(first):
+            slots, begin = before + piece, first - len(before) // self.size
             for place, (gate, number) in enumerate(self.names(piece), first):
-                if number != place + 1 or gate != self.gate:
+                if number == place > begin and self.is_repeated(slots, place - begin):
+                    self.given_up[number] = 1
+                elif number != place + 1 or gate != self.gate:
                     raise Wrong(f"{self.path}: slot {place} holds number {number} of gate {gate}, and has to hold "
                                 f"number {place + 1} of gate {self.gate}")
+            before = piece[-self.size:]
+
+    def is_repeated(self, slots: bytes, place: int) -> bool:
+        """Whether the slot at this place of some slots has the touch of the slot before it."""
+        return body_in(slots, self.size * place) == body_in(slots, self.size * (place - 1))
+
+    def has(self, number: int) -> bool:
+        """Whether the file has a touch of this number. The number behind that of a given-up touch is never used."""
+        return 1 <= number <= self.count and not self.given_up[number - 1]
 
     def read_on(self) -> None:
         before = self.count
@@ -209,7 +230,7 @@ class Comparison:
         self.touches, self.alike, self.before = 0, 0, 0
 
     def run(self) -> bool:
-        """Compares all, and answers whether something differs."""
+        """Compares all, and returns whether something differs."""
         behind = 0
         for journal in self.journals:
             for first, piece in journal.pieces():
@@ -218,19 +239,28 @@ class Comparison:
                     for place in places:
                         self.take(journal, first + place, behind, body_in(piece, journal.size * place))
             behind += journal.count
-        for number in range(1, self.last):
-            if not self.found[number - 1]:
-                self.told.tell("lacks", self.file.body(number), "", "", "no journal has this number")
-        if self.last and not self.found[self.last - 1]:
-            self.told.tell("waits", self.file.body(self.last), "", "", "no journal has it yet: it waits for its reply")
-        return any(count for finding, count in self.told.counts.items() if finding != "waits")
+        for number in range(1, self.last + 1):
+            if not self.found[number - 1] and self.file.has(number):
+                self.lacking(number)
+        return any(count for finding, count in self.told.counts.items() if finding not in HARMLESS)
+
+    def lacking(self, number: int) -> None:
+        """Tells of a touch of the file whose number no journal has."""
+        finding, note = "lacks", "no journal has this number"
+        if self.file.given_up[number]:
+            finding = "given-up"
+        elif number == self.last:
+            finding, note = "waits", "no journal has it yet: it waits for its reply"
+        self.told.tell(finding, self.file.body(number), "", "", note)
 
     def take_row(self, journal: Journal, behind: int, piece: bytes, places: Sequence[int]) -> bool:
         """Takes the touches at these places of a journal's piece at once, where their slots are those of the file that
-        come next: whether they are."""
+        come next, and none is given up: whether they are."""
         size, begin, end = journal.size, self.before, self.before + len(places)
         slots = b"".join([piece[size * place:size * (place + 1)] for place in places])
-        if begin < len(self.found) and any(self.found[begin:end]) or slots != self.file.slots(begin, end):
+        if 1 in self.file.given_up[begin:end + 1] or begin < len(self.found) and any(self.found[begin:end]):
+            return False
+        if slots != self.file.slots(begin, end):
             return False
         self.found[begin:end] = array.array("I", [behind + place + 1 for place in places])
         self.touches, self.alike, self.before = self.touches + len(places), self.alike + len(places), end
@@ -241,21 +271,24 @@ class Comparison:
         """Compares a touch of a journal, behind so many of the journals before it."""
         self.touches += 1
         number = wire.number_at(body, 3, 4)
-        if not 1 <= number <= self.file.count:
+        if not self.file.has(number):
             self.told.tell("more", body, journal.path, place, "the gate's file has no such number")
             return
         if self.found[number - 1]:
             self.told.tell("twice", body, journal.path, place, f"and {self.where(self.found[number - 1] - 1)}")
             return
         self.found[number - 1], self.last = behind + place + 1, max(self.last, number)
-        kept = self.file.body(number)
-        if kept == body:
-            self.alike += 1
-        else:
-            self.told.tell("other", body, journal.path, place, f"the gate's file has {words_of(kept)}")
-        if number < self.before:
-            self.told.tell("order", body, journal.path, place, f"behind number {self.before}")
-        self.before = number
+        kept, is_given_up = self.file.body(number), self.file.given_up[number]
+        self.alike += kept == body
+        if kept != body:
+            note = f"the gate's file has {words_of(kept)}" + ", given up" * is_given_up
+            self.told.tell("other", body, journal.path, place, note)
+        elif is_given_up:
+            self.told.tell("given-up", body, journal.path, place, "the gate gave it up")
+        if number > self.before or not is_given_up:
+            if number < self.before:
+                self.told.tell("order", body, journal.path, place, f"behind number {self.before}")
+            self.before = number
 
     def where(self, behind: int) -> str:
         """The place of a touch before which so many stand in all journals."""
@@ -267,7 +300,8 @@ class Comparison:
 
     def counts(self) -> str:
         """The line of counts."""
-        counts = {"gate": self.file.gate, "file": self.last, "journal": self.touches, "alike": self.alike,
+        touches = self.last - self.file.given_up[:self.last].count(1)
+        counts = {"gate": self.file.gate, "file": touches, "journal": self.touches, "alike": self.alike,
                   **self.told.counts}
         return ", ".join(f"{name} {count}" for name, count in counts.items())
 

@@ -12,9 +12,11 @@ prints a line of comma-separated values for each gate:
     numbers    which numbers these are, as '11 25-26'; at most --most parts, then how many more numbers there are
 
 A gap is a reason to ask, and isn't a proof. A gate that counts up one by one has no gap once it has settled every touch
-that got no answer. A gate that was replaced, and found its first number by asking, has larger and larger gaps. The
-revisions of gate 65535 are numbered by their days, so they are left out unless --gate names that gate. If a gate's first
-or last touches were removed, or all of them, there is no gap: a list of the gates and a seal show that (AUDIT.md).
+that got no answer. If it gave a touch up, the next number is missing, and the touch's own number too, unless an earlier
+send was recorded: '25-26' or '26'. The gate's file shows that (bovtrila-compare-gate). A gate that was replaced, and
+found its first number by asking, has larger and larger gaps. The revisions of gate 65535 are numbered by their days, so
+they are left out unless --gate names that gate. If a gate's first or last touches were removed, or all of them, there is
+no gap: a list of the gates and a seal show that (AUDIT.md).
 
 The status is 0 if no gate has a gap, 3 if one has, 1 if the file is wrong or can't be read, and 2 for a wrong command
 line. For a long file the script reports its progress on standard error.
