@@ -275,9 +275,15 @@ def reading(content: bytes, gate: int) -> Opening:
         size = struct.calcsize(codec.FORMS[slot[1]])
         touches.append(struct.pack(">H", size) + slot[1:1 + size])
     for place, frame in enumerate(touches):
-        if frame[3:9] != struct.pack(">HI", gate, place + 1):
+        is_own = frame[3:9] == struct.pack(">HI", gate, place + 1)
+        if not is_own and (place == 0 or frame != touches[place - 1] or frame[3:9] != struct.pack(">HI", gate, place)):
             return CAUSE["FOREIGN"], place, []
     return CAUSE["OK"], 0, touches
+
+
+def waiting_in(touches: Sequence[bytes]) -> int:
+    """The number of the touch that waits after an opening, 0 where there is none, or where the last one is given up."""
+    return 0 if list(touches[-2:-1]) == list(touches[-1:]) else len(touches)
 
 
 class Log:

@@ -33,12 +33,15 @@ class Files(GateTest):
         self.assertEqual(self.create(258, 5), [CAUSE["OK"], 0, 0])
         self.assertEqual(self.file.read_bytes(), clients.file_of([], 5, 258))
         section = (TOP / "docs" / "reference" / "JOURNAL.md").read_text().split("## A gate's file\n")[1].split("\n## ")[0]
-        rows = re.findall(r"(?m)^([0-9a-f]{4})  ((?:[0-9a-f]{2} ?)+)", section)
-        shown = dict((int(at, 16), bytes.fromhex(digits)) for at, digits in rows)
-        content = clients.file_of([FIRST[0]], 100_000, 7)
-        self.assertGreater(len(shown), 4)
-        for at, data in shown.items():
-            self.assertEqual(content[at:at + len(data)].hex(), data.hex(), hex(at))
+        blocks = re.findall(r"(?s)```\n(.*?)```", section)
+        # The touch waits in the first example, and is given up in the second.
+        for block, count, wanted in zip(blocks, (1, 2), (7, 5), strict=True):
+            rows = re.findall(r"(?m)^([0-9a-f]{4})  ((?:[0-9a-f]{2} ?)+)", block)
+            content = clients.file_of([FIRST[0]] * count, 100_000, 7)
+            self.assertEqual(len(rows), wanted)
+            for at, digits in rows:
+                data = bytes.fromhex(digits)
+                self.assertEqual(content[int(at, 16):][:len(data)].hex(), data.hex(), at)
 
     def test_each_cause_of_a_making_is_told(self) -> None:
         for capacity in (0, 1_000_001):
@@ -221,9 +224,9 @@ class Files(GateTest):
                     with self.open("127.0.0.1:1") as asker:
                         self.assertEqual((asker.opened, asker.ask("waiting")[:2]), ([0, 0, 0], [codec.ISSUE, count]))
 
-    def check_bytes(self, program: pathlib.Path) -> int:
+    def check_bytes(self, program: pathlib.Path, frames: Sequence[bytes]) -> int:
         """Each byte of a file changed to each other value."""
-        whole = clients.file_of(self.frames[:4], 10, 7)
+        whole = clients.file_of(frames, 10, 7)
         self.write(whole)
         done = subprocess.run([program, self.file, "7", self.folder / "copy"], capture_output=True, text=True)
         assert (done.returncode, done.stderr) == (0, ""), done.stderr
@@ -233,13 +236,15 @@ class Files(GateTest):
         assert len(lines) == len(contents)
         for place, (line, content) in enumerate(zip(lines, contents)):
             cause, at, touches = clients.reading(content, 7)
-            wanted = f"{cause} {at} {len(touches)}"
+            wanted = f"{cause} {at} {clients.waiting_in(touches)}"
             assert line == wanted, f"change {place}: {line}, and should be {wanted}"
         return len(lines)
 
     def test_each_byte_changed_is_read_as_the_page_says(self) -> None:
         program = clients.built(self.folder / "openings", [TESTS / "openings.c", SOURCE])
-        self.assertGreater(self.check_bytes(program), 80_000)
+        given_up = [FIRST[0], FIRST[0], *(codec.touch(codec.TOP_UP, 7, number, 1, 2000, 0) for number in (3, 4, 4))]
+        for frames in (self.frames[:4], given_up[:4], given_up):
+            self.assertGreater(self.check_bytes(program, frames), 80_000)
 
 
 class Power(GateTest):
@@ -608,6 +613,18 @@ class Shared(GateTest):
         with self.open(server.text) as asker:
             asking.run(asker)
         self.assertEqual((server.station.history, asking.told()), (FIRST, clients.worked_out(FIRST)))
+
+    def test_what_the_library_gave_up_is_not_sent_by_gate_send(self) -> None:
+        third, server = codec.touch(codec.ISSUE, 7, 3, 1, 1736149800), self.planted()
+        self.create()
+        with self.open([]) as asker:
+            asker.ask(f"keep-{clients.act_of(FIRST[0])}")
+            asker.ask(f"hear {codec.fault(7, 7, 1).hex()}")
+            self.assertEqual(asker.ask("give-up"), [RESULT["GIVEN_UP"], 1, 0, 0, 0, 0])
+        self.assertEqual(self.send(server, [], "--resend"), [])
+        self.assertEqual(self.send(server, [third]), ["7,3,1,issue,,,Issued,0,0"])
+        self.assertEqual((server.station.history, self.file.read_bytes()),
+                         ([third], clients.file_of([FIRST[0], FIRST[0], third], 1000, 7)))
 
     def test_one_of_them_has_it_at_a_time(self) -> None:
         self.create()

@@ -27,7 +27,9 @@ EIGHT = 1736150400
 DIGEST = bytes(range(32))
 # What stands behind a touch that lacks.
 NOWHERE, YET = "no journal has this number", "no journal has it yet: it waits for its reply"
-CLEAN = {"other": 0, "more": 0, "order": 0, "twice": 0, "lacks": 0, "waits": 0}
+CLEAN = {"other": 0, "more": 0, "order": 0, "twice": 0, "lacks": 0, "waits": 0, "given-up": 0}
+# The findings that are no difference.
+HARMLESS = "waits", "given-up"
 
 
 def tag(gate: int, text: bytes = b"touches of one gate, by number") -> bytes:
@@ -81,7 +83,7 @@ class FilesTest(unittest.TestCase):
         counts = CLEAN | {name: sum(line.startswith(name) for line in findings) for name in CLEAN}
         wanted = {"gate": 7, "file": file, "journal": journal, "alike": alike} | counts
         self.assertEqual(last, ", ".join(f"{name} {count}" for name, count in wanted.items()))
-        self.assertEqual(status, 0 if all(line.startswith("waits") for line in findings) else 1)
+        self.assertEqual(status, 0 if all(line.startswith(HARMLESS) for line in findings) else 1)
 
 
 class Findings(FilesTest):
@@ -281,7 +283,7 @@ class Journals(FilesTest):
             1, sorted(less), sorted(other), sorted(twice)))
         self.assertEqual((found["more"], found["waits"]), (list(range(count + 5, count + 45)), []))
         self.assertEqual(last, f"gate 7, file {count}, journal {count - 60 + 70 + 40}, alike {count - 60 - 70}, other 70, "
-                               f"more 40, order {len(found['order'])}, twice 70, lacks 60, waits 0")
+                               f"more 40, order {len(found['order'])}, twice 70, lacks 60, waits 0, given-up 0")
         self.assertEqual(set(found["order"]), {number - 1 for number in swapped if self.is_swapped(kept, number)})
 
     @staticmethod
@@ -313,7 +315,7 @@ class Csv(FilesTest):
             ["waits", "5", "5", "out", "1", "", "", at, "", ""]])
         self.assertEqual(rows[1][-1], "the gate's file has card 5 top-up of 2000 of 2025-01-06T08:00:00Z")
         self.assertEqual(done.stderr, "gate 7, file 5, journal 3, alike 1, other 1, more 1, order 0, twice 0, lacks 2, "
-                                      "waits 1\n")
+                                      "waits 1, given-up 0\n")
         raw = subprocess.run([SCRIPT, "gate", "journal", "--csv"], capture_output=True, cwd=self.folder, timeout=TIME)
         self.assertEqual((raw.stdout.count(b"\r\n"), raw.stdout.count(b"\n")), (6, 6))
 
@@ -381,7 +383,7 @@ class Wrong(FilesTest):
     def test_a_file_with_foreign_touches(self) -> None:
         self.station(row([1]))
         for frames, said in (([entering(0)], "slot 0 holds number 0 of gate 7, and has to hold number 1 of gate 7"),
-                             (row([1, 2, 2]), "slot 2 holds number 2 of gate 7, and has to hold number 3 of gate 7"),
+                             (row([1, 2, 1]), "slot 2 holds number 1 of gate 7, and has to hold number 3 of gate 7"),
                              ([entering(1), entering(2, 8)],
                               "slot 1 holds number 2 of gate 8, and has to hold number 2 of gate 7")):
             with self.subTest(said):
@@ -438,7 +440,7 @@ class Running(FilesTest):
         comparison = compare_gate.Comparison(file, [compare_gate.Journal(str(self.folder / "journal"))], told)
         self.assertFalse(comparison.run())
         self.assertEqual(comparison.counts(), "gate 7, file 5, journal 5, alike 5, other 0, more 0, order 0, twice 0, "
-                                              "lacks 0, waits 0")
+                                              "lacks 0, waits 0, given-up 0")
 
     def test_a_file_that_became_another_is_told(self) -> None:
         self.gate(row([1]))
@@ -468,4 +470,4 @@ class Large(FilesTest):
         self.assertEqual([line.split()[:3] for line in done.stdout.split("\n")[:-2]],
                          [["order", "number", "400001"], ["other", "number", "700001"], ["lacks", "number", "999991"]])
         self.assertEqual(done.stdout.split("\n")[-2], "gate 7, file 1000000, journal 999999, alike 999998, other 1, more 0, "
-                                                      "order 1, twice 0, lacks 1, waits 0")
+                                                      "order 1, twice 0, lacks 1, waits 0, given-up 0")

@@ -3,9 +3,9 @@
 Expected values are those of docs/vectors.txt, docs/reference/GATE_LIBRARY.md and docs/reference/JOURNAL.md, and of
 bovtrila.model, which is written separately from both. clients/c/tests/asker.c, which uses only the library's header, calls
 the library. Tested are: frames and answers; a gate's file with each byte changed, cut at each byte of each write, and as
-losses of power leave it; each call of the system refused, and the gate killed before it; one file that gate_send and the
-library use in turn; gates that are killed while the relay loses their answers; the sanitizers, arm, the examples, and
-libraries with a planted fault, each of which must be found.
+losses of power leave it; touches that are given up; each call of the system refused, and the gate killed before it; one
+file that gate_send and the library use in turn; gates that are killed while the relay loses their answers; the sanitizers,
+arm, the examples, and libraries with a planted fault, each of which must be found.
 
 It needs gcc, and crates/tap_server/out/tap_server, which `rt ci` leaves there, and for the tests of both
 crates/gate_send/out/gate_send. If a package of packaging/debian-packages isn't installed, a line 'not run: ..' reports
@@ -28,6 +28,8 @@ from typing import Any
 
 import harness
 import clients
+import gategivenup
+import gategivenupfiles
 import test_gate_makers as makers
 from bovtrila import codec, model, vector_file, wire
 from clients import (CAUSE, CLIENT, FIRST, HEADER, QUICK, REPLIES, RESULT, SOURCE, TESTS, Asker, Careful, GateTest,
@@ -38,6 +40,8 @@ from dissecting import Dissector  # noqa: F401
 from dissectingtls import Apart  # noqa: F401
 from gatecancels import WAYS, Cancels
 from gatefiles import Files, Power, Refused, Shared, Steps  # noqa: F401
+from gategivenup import GivingUp
+from gategivenupfiles import GivenUpFiles
 from gatestarts import StartedExamples, Starts  # noqa: F401
 from listening import Door
 from troubles import TROUBLES
@@ -179,7 +183,7 @@ class Words(GateTest):
         self.assertEqual(self.said("null"), [f"{' '.join([str(RESULT['MISUSE'])] * 7)} {CAUSE['MISUSE']} "
                                              f"{CAUSE['MISUSE']} {CAUSE['MISUSE']} 0 0 0 0 "
                                              f"{RESULT['MISUSE']} 0 {RESULT['MISUSE']} "
-                                             f"0 0 {RESULT['MISUSE']} 0 0"])
+                                             f"0 0 {RESULT['MISUSE']} 0 0 {RESULT['MISUSE']}"])
 
 
 class Repeats(GateTest):
@@ -407,7 +411,8 @@ class Lossy(GateTest):
 
     def check_compared(self, file: pathlib.Path, gate: int, count: int) -> None:
         """What an auditor finds between the file and the journal: nothing."""
-        script, counts = TOP / "bin" / "bovtrila-compare-gate", "other 0, more 0, order 0, twice 0, lacks 0, waits 0\n"
+        script = TOP / "bin" / "bovtrila-compare-gate"
+        counts = "other 0, more 0, order 0, twice 0, lacks 0, waits 0, given-up 0\n"
         done = subprocess.run([script, file, self.folder / "journal"], capture_output=True, text=True, timeout=TIME)
         self.assertEqual((done.returncode, done.stdout, done.stderr),
                          (0, f"gate {gate}, file {count}, journal {count}, alike {count}, {counts}", ""))
@@ -608,6 +613,8 @@ class Sanitized(GateTest):
                              (Steps, "test_enquiries_over_lines_of_the_gate_s_own"),
                              (Starts, "test_only_the_whole_mark_of_the_last_touch_counts"),
                              (Starts, "test_a_touch_that_is_done_is_not_told_again"),
+                             (GivingUp, "test_a_gate_with_lines_of_its_own"), (GivingUp, "check_other_answers"),
+                             (GivingUp, "test_a_full_file_gives_nothing_up"), (GivenUpFiles, "check_reading"),
                              (Cancels, "check_any_moment"), (Cancels, "check_before"), (Cancels, "check_many")):
             with self.subTest(check), of(owner, program) as case:
                 getattr(case, check)()
@@ -626,6 +633,7 @@ class Sanitized(GateTest):
         seeds.mkdir()
         for count in range(4):
             (seeds / str(count)).write_bytes(clients.file_of(Files.frames[:count], 4, 7))
+            (seeds / f"given-up{count}").write_bytes(gategivenup.CONTENTS[count])
         for place, (_, answer) in enumerate(Frames.pairs[:5]):
             (seeds / f"answer{place}").write_bytes(answer)
         words = [str(program), "-seed=52", "-runs=30000", "-max_len=400", str(seeds)]
@@ -778,7 +786,8 @@ class WrongLibraries(GateTest):
             "slot, SLOT_SIZE, slot_at(gate->asked) + 1, &gate->error)",
             "slot, SLOT_SIZE - 1, slot_at(gate->asked) + 1, &gate->error)", Power, "check_torn"),
         "nothing waits after an opening": (
-            "    gate->waits = 1;\n    return HOLDS;", "    return HOLDS;", Power, "check_cut", 4, 1),
+            "    gate->asked++;\n    return HOLDS;", "    gate->asked++;\n    gate->waits = 0;\n    return HOLDS;",
+            Power, "check_cut", 4, 1),
         "it counts from the opening": (
             "    touch->number = gate->asked + 1;", "    static uint32_t count;\n    touch->number = ++count;",
             Power, "check_counting"),
@@ -807,8 +816,8 @@ class WrongLibraries(GateTest):
             "        answer.fault = bytes[3], gate->waits = 0;\n        return answer;\n",
             Repeats, "check_row", "a halted server"),
         "it doesn't look at the numbers in the file": (
-            "        && (take(gate->last + 3, 2) != gate->number || take(gate->last + 5, 4) != gate->asked + 1))",
-            "        && take(gate->last + 3, 2) != gate->number)", Files, "test_each_cause_of_an_opening_is_told"),
+            "        && (take(frame + 3, 2) != gate->number || take(frame + 5, 4) != gate->asked + 1))",
+            "        && take(frame + 3, 2) != gate->number)", Files, "test_each_cause_of_an_opening_is_told"),
         "it takes another gate's file": (
             "    if (cards != CARDS || memcmp(header + GATE_AT, wanted + GATE_AT, GATE_SIZE) != 0)",
             "    if (cards != CARDS)",
@@ -869,7 +878,7 @@ class WrongLibraries(GateTest):
         "it clears one cancel of many": (
             "    while (some > 0);\n    return (some", "    while (0);\n    return some > 0 || (some",
             Cancels, "check_many"),
-    }
+    } | gategivenupfiles.FLAWS
 
     def test_each_is_found(self) -> None:
         whole = SOURCE.read_text()

@@ -20,6 +20,7 @@ from typing import IO, Any
 from bovtrila import codec
 # Their tests are run with those that stand here.
 from harness import EXAMPLE, PROGRAM, TIME, TOP
+from gategivesup import GivesUp  # noqa: F401
 from gatejudged import Judged, Starts  # noqa: F401
 from gatelines import Files, Lines  # noqa: F401
 from gatepower import Power  # noqa: F401

@@ -130,11 +130,12 @@ def journal_with_gaps(folder: pathlib.Path) -> None:
 
 
 def gate_file(folder: pathlib.Path) -> None:
-    """The file of gate 9 of that journal, with the three touches that are missing there, and one more that waits."""
+    """The file of gate 9 of that journal, with two touches that are missing there, of which the second is given up, and one
+    more that waits."""
     frames = [codec.touch(codec.ISSUE, 9, number, 1, moment("2025-01-06T07:50:00Z")) for number in range(1, 1212)]
     frames[810] = codec.touch(codec.TOP_UP, 9, 811, 12, 2000, moment("2025-01-06T07:50:00Z"))
     frames[1002] = codec.touch(codec.ENTER, 9, 1003, 12, 2, moment("2025-01-06T08:00:00Z"))
-    frames[1003] = codec.touch(codec.LEAVE, 9, 1004, 12, 1, moment("2025-01-06T08:25:00Z"))
+    frames[1003] = frames[1002]
     frames.append(codec.touch(codec.ISSUE, 9, 1212, 3, moment("2025-01-06T09:00:00Z")))
     tag = b"touches of one gate, by number" + (9).to_bytes(2, "big")
     (folder / "gate-9.file").write_bytes(layout.journal_of(frames, 10_000, 1, tag))

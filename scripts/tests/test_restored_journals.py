@@ -382,7 +382,8 @@ class Restores(harness.ProgramTest):
         file = self.gate_file(9)
         status, out, _ = station.restore("--gate", file, "--dry-run")
         self.assertEqual(status, 3)
-        wanted = ["          gate 7, file 9, journal 6, alike 6, other 0, more 0, order 0, twice 0, lacks 2, waits 1",
+        wanted = ["          gate 7, file 9, journal 6, alike 6, other 0, more 0, order 0, twice 0, lacks 2, waits 1, "
+                  "given-up 0",
                   "            lacks  number 7 card 1 top-up of 1 of 2025-01-06T08:00:07Z: no journal has this number",
                   "            lacks  number 8 card 1 top-up of 1 of 2025-01-06T08:00:08Z: no journal has this number",
                   "            waits  number 9 card 1 top-up of 1 of 2025-01-06T08:00:09Z: no journal has it yet: it waits "
