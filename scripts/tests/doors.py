@@ -152,20 +152,27 @@ class Haproxy:
         with open(self.log, "wb") as log:
             self.process = subprocess.Popen(["haproxy", "-W", "-f", self.config], stdin=subprocess.DEVNULL, stdout=log,
                                             stderr=log, start_new_session=True)
-        self.loaded(1)
-
-    def loaded(self, count: int) -> None:
-        """Waits until so many processes have loaded the configuration."""
         limit = time.monotonic() + TIME
-        while self.log.read_text().count("Loading success") < count:
+        while not self.told("Loading success"):
             if self.process.poll() is not None or time.monotonic() > limit:
                 raise AssertionError(self.log.read_text())
             time.sleep(0.02)
 
     def reload(self) -> None:
-        count = self.log.read_text().count("Loading success")
-        self.process.send_signal(signal.SIGUSR2)
-        self.loaded(count + 1)
+        """Returns once the process from before the reload takes no connection any more. Until then it goes by the files
+        that it read at its start."""
+        before = {text: self.told(text) for text in ("Loading success", "Reloading HAProxy", "Proxy gates stopped")}
+        limit = time.monotonic() + TIME
+        # Shortly after its start HAProxy ignores the signal.
+        while self.told("Reloading HAProxy") == before["Reloading HAProxy"] and time.monotonic() < limit:
+            self.process.send_signal(signal.SIGUSR2)
+            until(lambda: self.told("Reloading HAProxy") > before["Reloading HAProxy"], 5)
+        if not until(lambda: all(self.told(text) > count for text, count in before.items())):
+            raise AssertionError(self.log.read_text())
+
+    def told(self, text: str) -> int:
+        """How often its log has this text."""
+        return self.log.read_text().count(text)
 
     def shown(self, command: str) -> str:
         """What the socket for the status answers."""
