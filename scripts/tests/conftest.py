@@ -25,8 +25,8 @@ ROWS = {
     "machines": ("vanished_gate", "network", "new_machine", "new_station", "full_journals", "watched_servers",
                  "watched_pages"),
     "waiting": ("new_fares", "serve_end_to_end", "serve_notices", "take_over", "killed_under_load", "gate_makers",
-                "gate_sends", "gate_front", "door_front", "door_notices", "door_commands", "daily_copies", "remote_copies",
-                "restored_journals"),
+                "stand_in", "gate_sends", "gate_front", "door_front", "door_notices", "door_commands", "daily_copies",
+                "remote_copies", "restored_journals"),
 }
 ROW_OF = {f"test_{name}.py": row for row, names in ROWS.items() for name in names}
 

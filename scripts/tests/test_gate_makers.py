@@ -19,7 +19,7 @@ from collections.abc import Callable, Container, Iterable, Sequence
 from typing import TYPE_CHECKING, Any
 
 import harness
-from bovtrila import codec, model, places, vector_file, wire
+from bovtrila import codec, model, places, stand_in_judge, stand_in_script, vector_file, wire
 from bovtrila.commands import stand_in
 from bovtrila.commands.gate import Gate, day, revision
 from bovtrila.commands.gate import options as gate_options
@@ -624,24 +624,27 @@ class Restarted(MakersTest):
         self.addCleanup(rig.held.close)
         self.assertFound(rig, *(f"gate 7 number {number}: {self.OPENED}" for number in (3, 4)), passed=2)
 
-    def test_a_line_that_is_none_of_the_two_is_told(self) -> None:
+    def test_a_line_that_is_none_of_the_three_is_told(self) -> None:
         rows: tuple[tuple[str | bytes, str], ...] = (
             ("start", "'start'"), ("start x", "'start x'"), ("start 65536", "'start 65536'"),
             ("start -1", "'start -1'"), ("start 7 3", "'start 7 3'"), ("starts 7", "'starts 7'"), ("7", "'7'"),
-            ("", "''"), ("7 3 1", "'7 3 1'"), ("7 4294967296", "'7 4294967296'"), (b"7 \xff", r"'7 \xff'"))
+            ("", "''"), ("7 3 1", "'7 3 1'"), ("7 4294967296", "'7 4294967296'"), (b"7 \xff", r"'7 \xff'"),
+            ("given-up 7", "'given-up 7'"), ("given-up 7 3 1", "'given-up 7 3 1'"), ("given 7 3", "'given 7 3'"))
         for line, said in rows:
             with self.subTest(line):
                 rig = Rig(self, "rest answer\n")
                 rig.ask(self.issue, self.top_up)
                 rig.tell(line)
-                self.assertFound(rig, f"the barrier's line {said} is neither 'GATE NUMBER' nor 'start GATE'", passed=2)
+                self.assertFound(rig, f"the barrier's line {said} is none of 'GATE NUMBER', 'given-up GATE NUMBER' and "
+                                 "'start GATE'", passed=2)
         rig = Rig(self, "rest answer\n")
         rig.ask(self.issue, self.top_up)
         rig.tell("7 3")
         self.assertFound(rig, "the barrier was opened for '7 3', which is no touch sent", passed=2)
 
     def test_a_gate_that_is_started_again_is_waited_for_until_it_sends_a_touch(self) -> None:
-        judge, said = stand_in.Judge([stand_in.Step(["rest", "close"])], stand_in.station_of([])), io.StringIO()
+        steps, said = [stand_in_script.Step(["rest", "close"])], io.StringIO()
+        judge = stand_in_judge.Judge(steps, stand_in.station_of([]))
         with contextlib.redirect_stderr(said):
             for line, request, is_done in (
                     (None, self.issue, True), ("start 7\n", None, False), (None, codec.enquiry(1), False),

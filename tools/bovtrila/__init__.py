@@ -7,6 +7,7 @@
 - Journals: layout, journal_tail, journal_view. Copies of them: copies.
 - A server and its settings: serving, settings, condition, overview, certificates, rehearsal, fare_changes; the change to a
   new journal: due, old_server, handover, handover_steps.
+- The script of bovtrila-stand-in, and what it finds of a gate: stand_in_script, stand_in_judge.
 - Histories: history_rows, day_tally. The page of a day: day_charts, day_page, report_page, with the templates in templates/.
 - HTML pages are made of templates: templating.
 - The exporter: metrics, door_reports, and its page in the package web. A network of stations: the package network.
