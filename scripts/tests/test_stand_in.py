@@ -2,23 +2,22 @@
 start" and "When to repeat, and how often"): a right gate is found right, and a wrong one wrong.
 
 The tests play the gates over connections on 127.0.0.1. In most of them the stand-in runs in the test's own process, so that
-a test knows which requests it has read. The last class runs the command, with its named pipe.
+a test knows which requests it has read. scripts/tests/standpipes.py runs the command.
 """
 import contextlib
-import os
-import pathlib
 import re
 import socket
 import struct
-import subprocess
-import tempfile
+import threading
 import unittest
 from collections.abc import Iterable, Sequence
+from unittest import mock
 
-import harness
 from bovtrila import codec, wire
-from harness import BIN, TIME
+from bovtrila.commands import stand_in
+from harness import TIME
 from standing_in import ACCEPTED, MARK, MARK_LINE, MORNING, REFUSED, Within, travel, words
+from standpipes import Command  # noqa: F401
 
 # The steps after which the stand-in closes the connection.
 CLOSES = re.compile(r"cut .*|close|fault 1|bytes 0008ff01000000000000")
@@ -99,17 +98,26 @@ class Settled(unittest.TestCase):
 class Late(unittest.TestCase):
     """Answers to a gate that has closed its connection, or ended its half of it."""
 
-    LATE = 0.6
+    def setUp(self) -> None:
+        # Late answers wait until the test lets them be sent, and not for some time.
+        self.are_due = threading.Event()
+        self.enterContext(mock.patch.object(stand_in, "pause", lambda seconds: seconds and self.are_due.wait(TIME)))
+
+    def begun(self, text: str) -> tuple[Within, wire.Connection]:
+        """A stand-in that has read a touch, and waits with its late answer, and the touch's connection."""
+        self.are_due.clear()
+        station = Within(self, text)
+        return station, station.begin(travel(1))
 
     def play(self, *lines: str, is_reset: bool = False) -> tuple[list[str], list[str]]:
         """What the stand-in prints of a gate that closes the connection before a late answer, and sends the touch again if
         there is another line; and the faults among it."""
-        station = Within(self, "".join(f"{line}\n" for line in lines))
-        line = station.begin(travel(1))
+        station, line = self.begun("".join(f"{line}\n" for line in lines))
         if is_reset:
             assert isinstance(line.socket, socket.socket), "it has no TLS"
             line.socket.setsockopt(socket.SOL_SOCKET, socket.SO_LINGER, struct.pack("ii", 1, 0))
         line.close()
+        self.are_due.set()
         for _ in lines[1:]:
             station.ask(travel(1))
         station.send_all()
@@ -120,20 +128,20 @@ class Late(unittest.TestCase):
         for answer in ("fault 3", "fault 200", "reply 1 -900 1100", "fault 1"):
             for is_reset in (False, True):
                 with self.subTest(answer, is_reset=is_reset):
-                    found, faults = self.play(f"late {self.LATE} {answer}", "fault 7", is_reset=is_reset)
+                    found, faults = self.play(f"late 1 {answer}", "fault 7", is_reset=is_reset)
                     self.assertEqual((found, faults), ([f"right: gate 7 number 1: sent 2 times, {words(7)}"], []))
 
     def test_a_gate_that_closes_its_connection_has_to_send_the_touch_again(self) -> None:
         for answer in ("reply 24 0 0", "fault 7"):
             with self.subTest(answer):
-                _, faults = self.play(f"late {self.LATE} {answer}")
+                _, faults = self.play(f"late 1 {answer}")
                 self.assertEqual(faults, ["gate 7 number 1: the last that it had was no answer, and it wasn't sent again"])
 
     def half_closed(self, *openings: str) -> list[str]:
         """What is found of a gate that ends its half, and reads the late reply."""
-        station = Within(self, f"late {self.LATE} reply 1 -900 1100\n")
-        line = station.begin(travel(1))
+        station, line = self.begun("late 1 reply 1 -900 1100\n")
         line.end_sending()
+        self.are_due.set()
         self.assertEqual(line.take()[9], ACCEPTED)
         # It opens at once, before it is known that nothing comes back.
         station.tell(*openings)
@@ -159,19 +167,19 @@ class Late(unittest.TestCase):
     def test_a_late_answer_over_an_open_connection_is_that_of_its_own_send(self) -> None:
         for first, second, wrong in ((3, "fault 7", None), (7, "fault 3", words(3)), (7, "close", "no answer")):
             with self.subTest(second):
-                station = Within(self, f"late {self.LATE} fault {first}\n{second}\n")
-                line = station.begin(travel(1))
+                station, line = self.begun(f"late 1 fault {first}\n{second}\n")
                 with station.connect() as other:
                     other.send(travel(1))
                     other.take()
+                self.are_due.set()
                 self.assertEqual(line.take()[3], first)
                 self.assertEqual(station.faults(), [
                     f"gate 7 number 1: the last that it had was {wrong}, and it wasn't sent again"] if wrong else [])
 
     def test_the_end_waits_for_an_answer_that_is_to_be_sent(self) -> None:
-        station = Within(self, f"late {self.LATE} fault 7\n")
-        line = station.begin(travel(1))
+        station, line = self.begun("late 1 fault 7\n")
         self.assertFalse(station.judge.is_over(0, 0))
+        self.are_due.set()
         self.assertEqual(line.take()[3], codec.NOT_ALLOWED)
         station.send_all()
         self.assertTrue(station.judge.is_over(0, 0))
@@ -302,91 +310,6 @@ class Soon(unittest.TestCase):
         station.tell("7 1", "start 8")
         station.ask(travel(2, MORNING + 1))
         self.assertEqual(station.faults(), [])
-
-
-class Command(unittest.TestCase):
-    """The command, with its named pipe."""
-
-    def setUp(self) -> None:
-        folder = tempfile.TemporaryDirectory()
-        self.addCleanup(folder.cleanup)
-        self.folder = pathlib.Path(folder.name)
-        self.script = self.folder / "script"
-        self.script.write_text("reply 1 -900 1100\nfault 7\nrest reply 24 0 0\n")
-
-    def start(self, file: str | pathlib.Path) -> tuple[subprocess.Popen[str], wire.Address]:
-        """The stand-in with this file of the barrier, and its address."""
-        running = subprocess.Popen(
-            [BIN / "bovtrila-stand-in", "127.0.0.1:0", self.script, "--barrier", file, "--linger", str(TIME)], text=True,
-            stdin=subprocess.PIPE, stdout=subprocess.PIPE, stderr=subprocess.PIPE)
-        self.addCleanup(running.communicate)
-        self.addCleanup(running.kill)
-        assert running.stderr, "a pipe"
-        return running, wire.address(harness.first_line(running.stderr).split()[1])
-
-    def ask(self, address: wire.Address, frame: bytes) -> None:
-        with wire.Connection(address, TIME) as line:
-            line.send(frame)
-            line.take()
-
-    def played(self, *lines: str, again: bytes) -> list[str]:
-        """The faults that the command finds of a gate that gives up its second touch, and sends this touch after its start;
-        these lines come at the end."""
-        pipe = self.folder / "opened"
-        os.mkfifo(pipe)
-        running, address = self.start(pipe)
-        assert running.stderr, "a pipe"
-        # A writer for each line, as a rig's shell has it.
-        for frame, line in ((travel(1), "7 1"), (travel(2, MORNING + 1), "given-up 7 2"), (None, "start 7")):
-            if frame is not None:
-                self.ask(address, frame)
-            pipe.write_text(f"{line}\n")
-        self.assertEqual(running.stderr.readline(), "started 7\n")
-        self.ask(address, again)
-        pipe.write_text("".join(f"{line}\n" for line in (*lines, "start 8")))
-        self.assertEqual(running.stderr.readline(), "started 8\n")
-        running.terminate()
-        out, err = running.communicate(timeout=TIME)
-        faults = [line.removeprefix("failed: ") for line in out.splitlines() if line.startswith("failed: ")]
-        self.assertEqual((running.returncode, err), (int(bool(faults)), ""), out)
-        return faults
-
-    def test_a_gate_that_gave_a_touch_up_and_does_not_send_it_again_is_right(self) -> None:
-        self.assertEqual(self.played(again=travel(3, MORNING + 2)), [])
-
-    def test_a_gate_that_sends_it_again_after_its_start_is_found(self) -> None:
-        self.assertEqual(self.played("given-up 7 9", again=travel(2, MORNING + 1)), [
-            "'7 9' was given up, which is no touch sent", "gate 7 number 2: it was sent again after it was given up"])
-
-    def test_lines_are_read_from_standard_input_too(self) -> None:
-        running, address = self.start("-")
-        assert running.stdin and running.stderr, "pipes"
-        self.ask(address, travel(1))
-        running.stdin.write("7 1\nstart 7\n")
-        running.stdin.flush()
-        self.assertEqual(running.stderr.readline(), "started 7\n")
-        running.terminate()
-        out, _ = running.communicate(timeout=TIME)
-        self.assertIn("right: gate 7 number 1: sent 1 times, in; change -900, balance 1100, opened 1 times\n", out)
-
-    def test_a_barrier_s_file_that_is_no_named_pipe_is_refused(self) -> None:
-        missing, kind = self.folder / "missing", "this is no named pipe; name one that 'mkfifo FILE' has made, or -"
-        self.check_refused(1, f"stand-in: {missing}: No such file or directory; make a named pipe with 'mkfifo {missing}'\n",
-                           self.script, missing)
-        for file in (self.script, self.folder, pathlib.Path(os.devnull)):
-            with self.subTest(file):
-                self.check_refused(1, f"stand-in: {file}: {kind}", self.script, file)
-
-    def test_standard_input_is_not_the_script_and_the_barrier_s_file(self) -> None:
-        self.check_refused(2, "SCRIPT and --barrier can't both be standard input", "-", "-")
-
-    def check_refused(self, status: int, said: str, script: str | pathlib.Path, file: str | pathlib.Path) -> None:
-        done = subprocess.run([BIN / "bovtrila-stand-in", "127.0.0.1:0", script, "--barrier", file], capture_output=True,
-                              text=True, stdin=subprocess.DEVNULL, timeout=TIME)
-        self.assertEqual((done.returncode, done.stdout), (status, ""), done.stderr)
-        self.assertIn(said, done.stderr)
-        self.assertNotIn("listening", done.stderr)
-        self.assertNotIn("Traceback", done.stderr)
 
 
 class Script(unittest.TestCase):

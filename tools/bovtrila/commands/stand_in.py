@@ -120,7 +120,7 @@ def answer(connection: socket.socket, judge: Judge, request: bytes) -> bool:
     if step is None:
         connection.sendall(made)
         return True
-    time.sleep(step.late)
+    pause(step.late)
     if made and shows(connection, select.POLLRDHUP):
         judge.doubt(1)
         judge.answered(request, send, made if reaches(connection, made) else b"")
@@ -131,6 +131,11 @@ def answer(connection: socket.socket, judge: Judge, request: bytes) -> bool:
         connection.sendall(made)
     own = own_answer(request, made)
     return step.cut is None and step.kind != "close" and not (own and wire.is_fault(own, codec.BAD_FRAME))
+
+
+def pause(seconds: float) -> None:
+    """What passes before a late answer."""
+    time.sleep(seconds)
 
 
 def shows(connection: socket.socket, event: int, milliseconds: int = 0) -> bool:
