@@ -15,10 +15,11 @@ from unittest import mock
 
 from bovtrila import codec, wire
 from bovtrila.commands import stand_in
-from harness import TIME
+from harness import TIME, TOP
 from standing_in import ACCEPTED, MARK, MARK_LINE, MORNING, REFUSED, Within, travel, words
 from standpipes import Command  # noqa: F401
 
+PAGE = (TOP / "docs/reference/PROTOCOL.md").read_text()
 # The steps after which the stand-in closes the connection.
 CLOSES = re.compile(r"cut .*|close|fault 1|bytes 0008ff01000000000000")
 
@@ -26,9 +27,10 @@ CLOSES = re.compile(r"cut .*|close|fault 1|bytes 0008ff01000000000000")
 class Settled(unittest.TestCase):
     """After which answers a gate has to send a touch again."""
 
-    def play(self, *rows: str) -> list[str]:
+    def play(self, *rows: str, opens: Iterable[int] = ()) -> list[str]:
         """What the stand-in finds of a gate that sends a touch once for each step of a row, and then goes on with the touch
-        of the next row. They have the numbers from 1 on. OWN stands for the gate and the number of the touch."""
+        of the next row. They have the numbers from 1 on, and it opens its barrier for some of them. OWN stands for the gate
+        and the number of the touch."""
         rows = tuple(row.replace("OWN", struct.pack(">HI", 7, number).hex()) for number, row in enumerate(rows, 1))
         lines = [[line.strip() for line in row.split("|")] for row in rows]
         text = "".join(f"{line}\n" + MARK_LINE * (CLOSES.fullmatch(line) is None) for row in lines for line in row)
@@ -40,6 +42,7 @@ class Settled(unittest.TestCase):
                     said = b""
                     while not said.endswith(MARK) and (more := self.more(gate)):
                         said += more
+        station.tell(*(f"7 {number}" for number in opens))
         return station.faults()
 
     def more(self, gate: wire.Connection) -> bytes:
@@ -84,6 +87,19 @@ class Settled(unittest.TestCase):
                 # Fault 1 has no gate and number, another fault has them, and an enquiry answer may have such bytes.
                 "bytes 0008 ff 01 OWN", "bytes 0008 ff 07 000000000000", "bytes 000e 85 OWN 000000 00000001")
         self.check_wrong([(row, "no answer") for row in rows])
+
+    def test_the_situations_of_the_page(self) -> None:
+        """A gate that sends its touch once for each line of a row is right, and one that stops before the last line isn't,
+        but after fault 7. It opens its barrier exactly on a reply below 20."""
+        table = PAGE.partition("\n### Situations to try\n")[2].partition("\n| Lines |")[2].partition("\n\n")[0]
+        # This gate waits for no late answer: it closes the connection.
+        rows = [[line.replace("late 5 answer", "close") for line in re.findall("`([^`]+)`", row.split("|")[1])]
+                for row in table.splitlines()[2:]]
+        self.assertEqual(len(rows), 8)
+        opens = [number for number, row in enumerate(rows, 1) if row[-1] in ("reply 1 -900 1100", "reply 12 0 0")]
+        self.assertEqual(self.play(*map(" | ".join, rows), opens=opens), [])
+        longer = [" | ".join(row[:-1]) for row in rows if len(row) > 1 and row[0] != "fault 7"]
+        self.assertEqual(len(self.play(*longer)), len(longer))
 
     def test_a_gate_that_goes_on_under_a_new_number_is_found(self) -> None:
         for code, is_wrong in ((1, True), (3, True), (4, True), (9, True), (200, True), (2, False), (7, False)):
