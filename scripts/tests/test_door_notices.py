@@ -173,18 +173,22 @@ class Notices(DoorTest):
         return (said + self.told(server)).splitlines()
 
     def assert_lines(self, server: Server, wanted: list[str]) -> None:
-        """These lines are reported. The server reports once a second what it has refused so far: what it refuses just
-        after that is counted in the line of a minute later, so that a count may be lower."""
+        """These lines are reported, which have here the gate numbers of all that was refused, in their order. The server
+        reports once a second what it has refused so far: what it refuses just after that is counted in the line of a
+        minute later. So a count may be lower, and the gate number that of an earlier request."""
         said = sorted(self.lines(server, len(wanted)))
         self.assertEqual(len(said), len(wanted), said)
         for found, want in zip(said, wanted):
-            had, has = found.split(" ", 5), want.split(" ", 5)
-            self.assertEqual((had[:3], had[5:]), (has[:3], has[5:]), found)
-            self.assertIn(int(had[4]), range(1, int(has[4]) + 1), found)
+            had, has = found.split(" ", 5), want.split(" ", 4)
+            self.assertEqual((had[:3], had[5:]), (has[:3], has[4:]), found)
+            gates, count = has[3].split(","), int(had[4])
+            self.assertIn(count, range(1, len(gates) + 1), found)
+            # A request that is refused while the line is made has set the number, and isn't counted.
+            self.assertIn(had[3], gates[count - 1:], found)
             # The exporter reads such a line.
             counted, = door_reports.added(door_reports.NOTHING, found, 0).refused.items()
-            name = "" if has[2] == "rule" else has[5]
-            self.assertEqual(counted, ((name, has[2]), Refused(int(had[4]), int(has[3]), has[5], 0)))
+            name = "" if has[2] == "rule" else has[4]
+            self.assertEqual(counted, ((name, has[2]), Refused(count, int(had[3]), has[4], 0)))
 
     def test_each_reason_has_a_line(self) -> None:
         terms = 'gates = [7, 9]\nkinds = ["issue", "top-up"]\nahead = 300\nreserved = 8\nconnections = 1\n'
@@ -197,14 +201,14 @@ class Notices(DoorTest):
         self.ask(self.line(server, NAMED, "slow"), *[issue(1)] * 3)
         self.assert_ended(self.line(server, NAMED, "gate-70"))
         self.assert_lines(server, [
-            "not allowed ahead 9 1 gate-7", "not allowed connections 0 1 gate-7", "not allowed gate 65535 2 gate-7",
-            "not allowed kind 0 2 gate-7", "not allowed rate 7 3 slow", "not allowed reserve 7 2 gate-7",
-            "not allowed rule 0 1 gate-70"])
+            "not allowed ahead 9 gate-7", "not allowed connections 0 gate-7", "not allowed gate 8,65535 gate-7",
+            "not allowed kind 7,0 gate-7", "not allowed rate 7,7,7 slow", "not allowed reserve 7,7 gate-7",
+            "not allowed rule 0 gate-70"])
 
     def test_a_connection_without_a_name(self) -> None:
         server = self.serve_way(STAR, 'kinds = ["enquiry"]\n')
         self.ask(self.line(server, STAR), issue(1), issue(2))
-        self.assert_lines(server, ["not allowed kind 7 2 *"])
+        self.assert_lines(server, ["not allowed kind 7,7 *"])
         server = self.serve_way(NAMED, ALL)
         self.assert_ended(self.line(server, NAMED, None))
         self.assertEqual(self.lines(server, 1), ["not allowed rule 0 1 -"])
