@@ -402,9 +402,13 @@ class Told:
         with connection:
             while len(head := connection.recv(2, socket.MSG_WAITALL)) == 2:
                 self.asked.append(head + connection.recv(wire.number_at(head, 0, 2), socket.MSG_WAITALL))
-                if not self.answers:
+                answer = self.answer(self.asked[-1])
+                if answer is None:
                     return
-                connection.sendall(self.answers.pop(0))
+                connection.sendall(answer)
+
+    def answer(self, frame: bytes) -> bytes | None:
+        return self.answers.pop(0) if self.answers else None
 
 
 def journey(gate: int, cards: Any) -> Any:
