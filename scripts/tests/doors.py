@@ -161,23 +161,29 @@ class Haproxy:
     def reload(self) -> None:
         """Returns once the process from before the reload takes no connection any more. Until then it goes by the files
         that it read at its start."""
-        before = {text: self.told(text) for text in ("Loading success", "Reloading HAProxy", "Proxy gates stopped")}
-        limit = time.monotonic() + TIME
-        # Shortly after its start HAProxy ignores the signal.
-        while self.told("Reloading HAProxy") == before["Reloading HAProxy"] and time.monotonic() < limit:
-            self.process.send_signal(signal.SIGUSR2)
-            until(lambda: self.told("Reloading HAProxy") > before["Reloading HAProxy"], 5)
+        before = {text: self.told(text) for text in ("Loading success", "Proxy gates stopped")}
+        self.begin_reload()
         if not until(lambda: all(self.told(text) > count for text, count in before.items())):
             raise AssertionError(self.log.read_text())
+
+    def begin_reload(self) -> None:
+        """Returns once it reads its configuration again, which it may refuse."""
+        count, limit = self.told("Reloading HAProxy"), time.monotonic() + TIME
+        # Shortly after its start HAProxy ignores the signal.
+        while self.told("Reloading HAProxy") == count:
+            if time.monotonic() > limit:
+                raise AssertionError(self.log.read_text())
+            self.process.send_signal(signal.SIGUSR2)
+            until(lambda: self.told("Reloading HAProxy") > count, 5)
 
     def told(self, text: str) -> int:
         """How often its log has this text."""
         return self.log.read_text().count(text)
 
     def shown(self, command: str) -> str:
-        """What the socket for the status answers."""
-        done = subprocess.run(["socat", "-", self.run / "status"], input=f"{command}\n", capture_output=True, text=True,
-                              check=True, timeout=TIME)
+        """What the socket for the status answers. By itself socat waits half a second for it."""
+        done = subprocess.run(["socat", "-t", str(TIME), "-", self.run / "status"], input=f"{command}\n", check=True,
+                              capture_output=True, text=True, timeout=TIME)
         return done.stdout
 
     def end(self) -> None:

@@ -10,7 +10,7 @@ import tempfile
 import threading
 import time
 import unittest
-from collections.abc import Iterator
+from collections.abc import Iterable, Iterator
 from typing import Any
 
 import harness
@@ -75,6 +75,8 @@ class Behind(harness.ProgramTest):
     made: pathlib.Path
     # Whether the server gets the name of each connection's certificate.
     has_names = False
+    # How many enquiries of a flood were answered.
+    flooded = 0
 
     @classmethod
     def setUpClass(cls) -> None:
@@ -162,3 +164,33 @@ class Behind(harness.ProgramTest):
             time.sleep(0.05)
         self.assertGreaterEqual(len(found), count, f"{form}\n{self.front.log.read_text()}")
         return found
+
+    def comes_and_goes(self) -> bool:
+        """Whether a new connection was answered, which is closed then."""
+        line = self.answered()
+        if line:
+            line.close()
+        return line is not None
+
+    def passed_in(self, seconds: float, most: int, lines: Iterable[Line]) -> int:
+        """How many bytes of enquiries come through over these connections in so many seconds, which is never more than
+        this for each of them."""
+        begun = time.monotonic()
+        floods = [threading.Thread(target=self.flood, args=(line, begun + seconds)) for line in lines]
+        self.flooded = 0
+        for thread in floods:
+            thread.start()
+        for thread in floods:
+            thread.join(TIME)
+        passed = self.flooded * len(ENQUIRY)
+        # A second's bytes are saved up at the beginning, and HAProxy's clock may lag a little on a busy machine.
+        self.assertLessEqual(passed, most * (time.monotonic() - begun + 1.5))
+        return passed
+
+    def flood(self, line: Line, limit: float) -> None:
+        """Sends 100 enquiries at a time, and counts the answers."""
+        while time.monotonic() < limit:
+            line.send(ENQUIRY * 100)
+            for _ in range(100):
+                self.assertEqual(line.take()[2], codec.HOLDING)
+                self.flooded += 1

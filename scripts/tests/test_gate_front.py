@@ -3,15 +3,14 @@ with certificates of bovtrila-authority. While somebody attacks from 127.0.0.2, 
 each has to get the reference model's answer, and soon. All traffic stays on the loopback, with at most 120 connections
 and some seconds for each attack.
 """
+import concurrent.futures
 import contextlib
 import re
 import select
 import shutil
-import signal
 import socket
 import ssl
 import subprocess
-import threading
 import time
 import warnings
 
@@ -114,23 +113,25 @@ class Doors(Behind):
             self.assertEqual(self.until(r"refused: .*Timeout during SSL handshake", 12), ["-"] * 12)
 
     def test_a_silent_connection(self) -> None:
-        """One that never sent a byte, and one that was answered: both end after SILENT, and a line has each one's name."""
-        self.serve(HANDSHAKE="1s", SILENT="3s")
+        """One that never sent a byte, and one that was answered: both end after SILENT, and a line has each one's name. A
+        machine that stops for some seconds still ends each handshake in time, and gate 8 isn't silent for so long."""
+        self.serve(HANDSHAKE="5s", SILENT="8s")
         with self.steady():
             begun, lines = time.monotonic(), [self.line("7"), self.line("7")]
             self.assertEqual(lines[1].ask()[2], codec.HOLDING)
             for line in lines:
-                self.assertGreater(self.ended(line) - begun, 2.5)
-            self.assertLess(time.monotonic() - begun, 3 + SOON)
+                self.assertGreater(self.ended(line) - begun, 7.5)
+            self.assertLess(time.monotonic() - begun, 8 + SOON)
             self.assertEqual(self.until(r"ended \([cs][DR], ", 2), ["7", "7"])
 
     def test_a_server_that_closes_silent_connections_first(self) -> None:
         """As the values of the configuration are: `idle` of the server is shorter, and nothing is logged."""
-        self.serve({"more": ("--idle", "1")})
+        # A machine that stops for some seconds still sends the enquiry in time.
+        self.serve({"more": ("--idle", "4")})
         line = self.line("7")
         self.assertEqual(line.ask()[2], codec.HOLDING)
         begun = time.monotonic()
-        self.assertLess(self.ended(line) - begun, 3 + SOON)
+        self.assertLess(self.ended(line) - begun, 4 + SOON)
         self.assertEqual(self.logged(""), [])
 
     def test_no_session_is_resumed(self) -> None:
@@ -177,21 +178,22 @@ class Floods(Behind):
         self.assertIsNotNone(line, self.front.log.read_text())
 
     def test_new_connections(self) -> None:
-        """A hundred in a row, each closed once it was answered: those above the limits are refused. Of the refusals that
-        have a name only the first ones are logged."""
-        self.serve()
-        with self.steady():
-            count, begun = 0, time.monotonic()
-            for _ in range(100):
-                if line := self.answered():
-                    count += 1
-                    line.close()
+        """A hundred, each closed once it was answered: those above the limits are refused. Of the refusals that have a name
+        only the first ones are logged."""
+        # On a busy machine some come before those before them are no more counted, and one at a time would be too few.
+        self.serve(CONNECTIONS=12)
+        form, made, count, begun = r"refused: \d+ (?:new connections|connections at once)", 0, 0, time.monotonic()
+        with self.steady(), concurrent.futures.ThreadPoolExecutor(4) as pool:
+            while made < 100 or len(self.logged(form)) < LOGGED and time.monotonic() < begun + TIME:
+                count += sum(pool.map(lambda _: self.comes_and_goes(), range(20)))
+                made += 20
             windows = 1 + (time.monotonic() - begun) / 10
             self.assertTrue(NEW // 2 <= count <= NEW * windows, f"{count} in {windows} times 10 s")
-            self.until(rf"refused: {NEW + 1} new connections in 10 s, the limit is {NEW} ")
-            # Among them there may be one whose predecessor isn't closed yet.
-            said = self.until(r"refused: \d+ (?:new connections|connections at once)", LOGGED)
+            said = self.until(form, LOGGED)
             self.assertEqual(said, ["7"] * len(said))
+            # The others of the four may be counted before the first one is compared with the limit.
+            counted = re.findall(rf"refused: (\d+) new connections in 10 s, the limit is {NEW} ", self.front.log.read_text())
+            self.assertIn(min(map(int, counted)), range(NEW + 1, NEW + 5))
             self.assertLessEqual(len(said), LOGGED * windows)
             # An address may do more than a certificate, and less than that.
             self.assertLessEqual(self.tried(), ADDRESS_NEW * windows)
@@ -206,17 +208,10 @@ class Floods(Behind):
         """Two connections that send enquiries without waiting for answers, for four seconds."""
         self.serve()
         with self.steady():
-            begun = time.monotonic()
-            floods = [threading.Thread(target=self.flood, args=(line, begun + 4)) for line in (self.line(), self.line())]
-            self.flooded = 0
-            for thread in floods:
-                thread.start()
-            for thread in floods:
-                thread.join(TIME)
-            seconds = time.monotonic() - begun
-            # A second's bytes are saved up at the beginning, and HAProxy's clock may lag a little on a busy machine.
-            self.assertLessEqual(self.flooded * len(ENQUIRY), BYTES * (seconds + 1.5))
-            self.assertGreaterEqual(self.flooded * len(ENQUIRY), BYTES * 3)
+            lines = self.line(), self.line()
+            # Fewer come through while the machine stops. Four other seconds are whole.
+            passed = (self.passed_in(4, BYTES, lines) for _ in range(5))
+            self.assertTrue(any(count >= BYTES * 3 for count in passed))
         self.assertEqual(re.findall(r"^gate (\S+): slowed down to 4000 bytes a second$", self.front.log.read_text(), re.M),
                          ["7"])
 
@@ -224,23 +219,17 @@ class Floods(Behind):
         """Once a connection that was slowed down is silent, HAProxy rests."""
         self.serve()
         with self.steady():
-            self.flooded = 0
-            self.flood(self.line(), time.monotonic() + 2)
-            self.assertIn("gate 7: slowed down to 4000 bytes a second\n", self.front.log.read_text())
+            self.flooded, line, limit = 0, self.line(), time.monotonic() + TIME
+            # While the machine stops it may send too little to be slowed down.
+            while not self.front.told("gate 7: slowed down to 4000 bytes a second\n") and time.monotonic() < limit:
+                self.flood(line, time.monotonic() + 2)
+            self.assertEqual(self.front.told("gate 7: slowed down to 4000 bytes a second\n"), 1)
             time.sleep(1.5)
             shown = self.front.shown("show sess all")
             # How often in the last second each connection's task was woken for nothing: both halves of gates 7 and 8.
             woken = [int(rate) for rate in re.findall(r"^  task=.* calls=\d+ rate=(\d+) ", shown, re.M)]
             self.assertGreaterEqual(len(woken), 4, shown)
             self.assertLess(max(woken), 300, shown)
-
-    def flood(self, line: Line, limit: float) -> None:
-        """Sends 100 enquiries at a time, and counts the answers."""
-        while time.monotonic() < limit:
-            line.send(ENQUIRY * 100)
-            for _ in range(100):
-                self.assertEqual(line.take()[2], codec.HOLDING)
-                self.flooded += 1
 
     def test_all_slots_taken(self) -> None:
         """By two certificates together: as many connections wait as WAITING says, and no longer than WAIT. The server gets
@@ -257,10 +246,11 @@ class Floods(Behind):
         self.assertEqual(self.until("refused: the server has no slot, and 2 connections wait "), ["7"])
         taken[0].close()
         self.assertEqual(waiting[0].take()[2], codec.HOLDING)
-        begun = time.monotonic()
         self.ended(waiting[1])
-        self.assertLess(time.monotonic() - begun, 20 + SOON)
         self.assertEqual(self.until(r"ended \(sQ, "), ["9"])
+        # By HAProxy's clock, which stands still while the machine does.
+        [after] = re.findall(r": ended \(sQ, after (\d+) ms\)$", self.front.log.read_text(), re.M)
+        self.assertLess(int(after), (20 + SOON) * 1000)
         self.assertEqual(self.relay.connections, 2 + 1)
 
     def waits(self, count: int) -> None:
@@ -282,8 +272,8 @@ class Reloads(Behind):
             self.assertEqual(line.ask()[2], codec.HOLDING)
         self.assertEqual(authority("revoke", self.tls, "7")[0], 0)
         other = self.answered("7")
-        begun = time.monotonic()
         self.front.reload()
+        begun = time.monotonic()
         while time.monotonic() < begun + 2:
             for line in (gate, revoked):
                 self.assertEqual(line.ask()[2], codec.HOLDING)
@@ -327,7 +317,7 @@ class Reloads(Behind):
         check = subprocess.run(["haproxy", "-c", "-q", "-f", self.front.config], capture_output=True, timeout=TIME)
         self.assertEqual(check.returncode, 1)
         with self.steady():
-            self.front.process.send_signal(signal.SIGUSR2)
+            self.front.begin_reload()
             time.sleep(1)
         self.assertIsNotNone(self.answered("7"))
 
@@ -345,7 +335,7 @@ class Gates(Behind):
         """Ends of the gate's half, bad beginnings and hang-ups too: nothing of the protocol is lost."""
         station = next(station for station in vector_file.read() if station.name == "full")
         self.serve({"cards": station.cards, "capacity": station.capacity, "table": station.table}, **self.WIDE)
-        words = (CERTIFY, f"{GOOD}:{self.front.port}", "--server", "full", *self.words())
+        words = (CERTIFY, f"{GOOD}:{self.front.port}", "--server", "full", "--timeout", TIME / 2, *self.words())
         done = subprocess.run([str(word) for word in words], capture_output=True, text=True, timeout=5 * TIME)
         self.assertEqual(done.returncode, 0, done.stdout + done.stderr)
         self.assertRegex(done.stdout.splitlines()[-1], r"^[1-9]\d* passed, 0 failed$")
