@@ -323,9 +323,9 @@ class Soon(unittest.TestCase):
     def test_without_a_start_there_is_no_time(self) -> None:
         station = Within(self, "reply 1 0 0\nrest reply 24 0 0\n")
         station.ask(travel(1))
-        station.tell("7 1", "start 8")
+        station.tell("start 8")
         station.ask(travel(2, MORNING + 1))
-        self.assertEqual(station.faults(), [])
+        self.assertEqual(station.faults(), ["gate 7 number 1: the barrier wasn't opened on: in; change 0, balance 0"])
 
 
 class Script(unittest.TestCase):
