@@ -5,7 +5,8 @@ Each line of SCRIPT (- is standard input) is for one request, in the order in wh
 connection; # begins a comment. Only whole requests count.
 
     answer                         the answer by the rules, with /usr/share/bovtrila/docs/example.toml, 10 cards and
-                                   no history, and with the tables of --revision
+                                   no history, and with the tables of --revision: a touch in is refused until the
+                                   script has an issue of its card
     reply VERDICT CHANGE BALANCE   this reply, with the touch's gate and number
     holding STATE BALANCE FRONT    this enquiry answer
     fault CODE                     this fault. After fault 1 stand-in closes the connection
@@ -40,6 +41,8 @@ for standard input. The gate, or its test rig, writes them:
     GATE NUMBER                    the barrier was opened for this touch
     given-up GATE NUMBER           the gate has stored that it gave this touch up
     start GATE                     the gate was started again
+
+The lines 'start GATE' and 'given-up GATE NUMBER' are for gates that have one touch on the way.
 
 In this test each passenger stays until the reply. The barrier has to open for a reply to a touch in or out with a
 verdict of 1 to 6, or with a code below 20 that has no meaning yet. It may open or not for 7 to 9, which no server
