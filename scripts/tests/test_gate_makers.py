@@ -437,14 +437,24 @@ class StandIn(MakersTest):
     def test_scripts_gate_with_its_options_is_found_right(self) -> None:
         pipe = self.folder / "opened"
         os.mkfifo(pipe)
-        text = "answer\nsilence\nanswer\nfault 3\ncut 7 answer\nanother answer\nrest answer\n"
+        text = "answer\nsilence\nanswer\nfault 3\nfault 200\nfault 1\ncut 7 answer\nanother answer\nrest answer\n"
         # It ends by itself, once nothing has come for this long.
         running = self.start(BIN / "bovtrila-stand-in", "127.0.0.1:0", self.write("script", text), "--barrier", pipe,
                              "--linger", 6)
         done = script("gate", running.text, TOP / "crates/tap_server/stdin", "--repeat", "--timeout", 5, "--backoff",
                       0.01, "--barrier", pipe)
-        self.assertEqual((done.returncode, done.stderr.count("again")), (0, 4), done.stderr)
+        self.assertEqual((done.returncode, done.stderr.count("again")), (0, 6), done.stderr)
         self.assertEqual(running.end()[:2][1][-1], "4 passed, 0 failed")
+
+    def test_the_gate_sends_a_touch_no_more_after_fault_1_twice_or_a_lasting_fault(self) -> None:
+        for text, again in (("fault 1\nfault 1\nrest answer\n", 1), ("fault 7\nrest answer\n", 0)):
+            with self.subTest(text):
+                running = self.start(BIN / "bovtrila-stand-in", "127.0.0.1:0", self.write("script", text), "--linger",
+                                     TIME)
+                done = script("gate", running.text, TOP / "crates/tap_server/stdin", "--repeat", "--timeout", TIME / 2,
+                              "--backoff", 0.01)
+                self.assertEqual((done.returncode, done.stderr.count("again")), (0, again), done.stdout + done.stderr)
+                self.assertEqual(running.end(True)[1][-1], "4 passed, 0 failed")
 
     def test_a_gate_that_does_wrong_is_found(self) -> None:
         lost = "answer\nanswer\nsilence\nrest answer\n"

@@ -9,8 +9,6 @@ import time
 from bovtrila import codec, model, wire
 from bovtrila.stand_in_script import Step
 
-# The faults to the last send of a touch after which the gate may give it up.
-LASTING = (codec.CONFLICT, codec.FULL, codec.UNKNOWN_TABLE, codec.NOT_ALLOWED)
 # How many seconds a gate refuses a card after a touch from before its start that was accepted without an opening.
 CLOSED = 30
 
@@ -57,7 +55,7 @@ class Touch:
     def is_settled(self) -> bool:
         """Whether the gate needs to send nothing again. Bytes that got fault 1 twice would get it each time."""
         bad = sum(answer is not None and wire.is_fault(answer, codec.BAD_FRAME) for answer in self.answers)
-        return self.reply is not None or self.has_last(*LASTING) or bad > 1 and self.has_last(codec.BAD_FRAME)
+        return self.reply is not None or self.has_last(*wire.LASTING) or bad > 1 and self.has_last(codec.BAD_FRAME)
 
     def is_let_through(self) -> bool:
         """Whether the gate had an answer that opens its barrier."""
@@ -196,7 +194,7 @@ class Judge:
         touch = self.touches.get(name)
         if touch is None:
             return self.loose.append(f"'{numbers(name)}' was given up, which is no touch sent")
-        if touch.has_last(*LASTING):
+        if touch.has_last(*wire.LASTING):
             touch.is_excused = True
         elif not touch.is_given_up:
             touch.faults.append(f"the last that it had was {touch.state()}, and it was given up")

@@ -71,6 +71,8 @@ FIRST_REFUSAL = 20
 # generated: opening
 OPENING = (1, 2, 3, 4, 5, 6)
 # end: opening
+# After these faults to its last send a gate may give a touch up: a repeat at once doesn't change them.
+LASTING = (codec.CONFLICT, codec.FULL, codec.UNKNOWN_TABLE, codec.NOT_ALLOWED)
 STATES = {0: "vacant", 1: "outside", 2: "inside"}
 FAULTS = {
     # generated: faults

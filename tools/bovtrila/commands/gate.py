@@ -85,7 +85,7 @@ class Gate:
     label = ""
 
     def __init__(self, address: wire.Address, options: argparse.Namespace) -> None:
-        self.address, self.options, self.repeats = address, options, 0
+        self.address, self.options, self.repeats, self.got_fault_1 = address, options, 0, b""
         self.connection: wire.Connection | None = None
         self.first_answers: dict[bytes, bytes] = {}
 
@@ -105,14 +105,18 @@ class Gate:
         answer = self.connection.take()
         if not answer:
             raise ConnectionError("the server closed the connection")
-        wrong = fault_in(request, answer)
-        if wrong and self.options.repeat:
-            raise ConnectionError(wrong)
-        if wrong:
-            raise Wrong(wrong)
-        if self.options.repeat and wire.is_touch(request) and wire.is_fault(answer, codec.HALTED, codec.MEMORY):
+        if wrong := fault_in(request, answer):
+            raise ConnectionError(wrong) if self.options.repeat else Wrong(wrong)
+        if self.options.repeat and self.is_sent_again(request, answer):
             raise ConnectionError(wire.in_words(request, answer))
         return answer
+
+    def is_sent_again(self, request: bytes, answer: bytes) -> bool:
+        """Whether a gate sends this touch again: after a fault that may pass, and once after fault 1."""
+        if not wire.is_touch(request) or answer[2] != codec.FAULT or wire.is_fault(answer, *wire.LASTING):
+            return False
+        before, self.got_fault_1 = self.got_fault_1, request if wire.is_fault(answer, codec.BAD_FRAME) else b""
+        return self.got_fault_1 != request or before != request
 
     def wait(self, tries: int) -> None:
         """Waits before the next try: twice as long after each, and not as long as any other gate."""
@@ -262,7 +266,7 @@ def parser() -> argparse.ArgumentParser:
                         help="the wait before the first repeat (0.2)")
     parser.add_argument("--tries", type=int, default=10, help="how many times a request is sent at most (10)")
     parser.add_argument("--repeat", action="store_true",
-                        help="send a touch again after fault 3 or 4, and after another touch's answer, too")
+                        help="send a touch again after each fault that may pass, and after another touch's answer, too")
     secured.add_option(parser)
     parser.add_argument("--proxy", metavar="NAME", type=proxied.certificate,
                         help="the server has --proxy: begin each connection with a header that has this\n"
