@@ -58,10 +58,11 @@ class SendTest(harness.ProgramTest):
         return [str(GATE_SEND), "--gate", str(gate), "--file", str(self.file), "--timeout", str(timeout),
                 "--pause", str(pause), *map(str, more)]
 
-    def send(self, lines: Iterable[str], *more: object, gate: int | str = 7, timeout: int = TIMEOUT) -> Ended:
+    def send(self, lines: Iterable[str], *more: object, gate: int | str = 7, timeout: int = TIMEOUT,
+             pause: int = 5) -> Ended:
         """A run on these lines: its status, the lines that it printed, and what stands on standard error."""
         given = "".join(f"{line}\n" for line in lines)
-        words = self.words(*more, gate=gate, timeout=timeout)
+        words = self.words(*more, gate=gate, timeout=timeout, pause=pause)
         done = subprocess.run(words, input=given, capture_output=True, text=True, timeout=TIME)
         return done.returncode, done.stdout.splitlines(), done.stderr
 

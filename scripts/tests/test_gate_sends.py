@@ -212,6 +212,15 @@ class Faults(SendTest):
         self.assertGreater(gaps[1], 5.9)
         self.assertLess(gaps[2], 5.5)
 
+    def test_a_connection_that_ended_while_it_was_idle_is_no_failure(self) -> None:
+        """No pause follows, which would be of 15 to 30 seconds."""
+        station = Scripted([reply(1, 8, 0, 0), None, reply(2, 7, 2000, 2000)])
+        begun = time.monotonic()
+        done = self.send(MORNING[:2], "--new", station.address, pause=30_000)
+        self.assertLess(time.monotonic() - begun, 14)
+        self.assertEqual(done, (0, ANSWERED[:2], f"again {station.address} hear 1 NoAnswer\n"))
+        self.assertEqual(station.requests, [FRAMES[0], FRAMES[1], FRAMES[1]])
+
     def test_a_station_that_is_silent_is_given_up(self) -> None:
         with socket.create_server(("127.0.0.1", 0)) as silent:
             address = f"127.0.0.1:{silent.getsockname()[1]}"

@@ -3,7 +3,7 @@
 ghost use Rattle.std.specs.Prelude.{⊤};
 
 use crate::arguments::LONGEST_PAUSE;
-use gate_client::{Line, Station, TryFault};
+use gate_client::{HearFault, Line, Station, TryFault};
 use std::net::{Net, TcpListener, TcpStream, ToSocketAddrs};
 use std::time::{Clock, Duration};
 use std::{io, thread};
@@ -19,6 +19,8 @@ pub(crate) struct TcpStation<'a, R> {
     next: usize,
     /// How many tries failed since the last pause, or since the last request was settled.
     tried: usize,
+    /// Whether the line in use was made for an earlier request.
+    is_old: bool,
     /// How long a connection, a read or a write may take.
     timeout: Duration,
     /// The first pause, in milliseconds.
@@ -41,15 +43,17 @@ impl<'a, R: Net<Listener = TcpListener, Stream = TcpStream> + Clock + Eprint> Tc
             addresses,
             next: 0,
             tried: 0,
+            is_old: false,
             timeout,
             first,
             pause: first,
         }
     }
 
-    /// A request is settled: the next one begins with no failed try, and its first pause is the
-    /// first again.
+    /// A request is settled: the next one begins with its line, with no failed try, and its first
+    /// pause is the first again.
     pub(crate) fn rest(&mut self) {
+        self.is_old = true;
         self.tried = 0;
         self.pause = self.first;
     }
@@ -78,6 +82,7 @@ impl<R: Net<Listener = TcpListener, Stream = TcpStream> + Clock + Eprint> Statio
     ghost made = { λ _. ⊤ };
 
     fn connect(&mut self) -> Option<Line<TcpStream, TcpStream>> {
+        self.is_old = false;
         line_to(self.rt, self.address(), self.timeout).ok()
     }
 
@@ -86,7 +91,14 @@ impl<R: Net<Listener = TcpListener, Stream = TcpStream> + Clock + Eprint> Statio
         let _ = eprintln!(self.rt; "again {address} {fault}");
         let next = self.next.saturating_add(1);
         self.next = if next < self.addresses.len() { next } else { 0 };
-        self.tried = self.tried.saturating_add(1);
+        // A server may have ended the line while it was idle: that is no failure of its address.
+        let has_ended = matches!(
+            fault,
+            TryFault::Cut | TryFault::Unheard(HearFault::NoAnswer)
+        );
+        if !(self.is_old && has_ended) {
+            self.tried = self.tried.saturating_add(1);
+        }
         // Another address may answer at once (PROTOCOL.md, "When to repeat, and how often").
         if self.tried >= self.addresses.len() {
             self.tried = 0;
