@@ -147,7 +147,9 @@ impl<'a> KeptOut<'a> {
         match shut {
             ShutOut::Connections { place } => self.count(place, Reason::Connections, 0),
             ShutOut::NoRule => {
-                *self.stranger.lock(rt) = name;
+                // Under the lock, so that a line has the name of the last one that it counts.
+                let mut stranger = self.stranger.lock(rt);
+                *stranger = name;
                 self.strangers.add(0);
             }
         }
@@ -160,12 +162,15 @@ impl<'a> KeptOut<'a> {
         for (rule, counts) in self.door.rules().iter().zip(&self.rules) {
             tell_counts(counts, now, rule.name.as_str(), to);
         }
-        let stranger = *self.stranger.lock(rt);
+        let last = self.stranger.lock(rt);
+        let stranger = *last;
         let name = match &stranger {
             Some(name) => name.as_str(),
             None => NO_NAME,
         };
-        tell_line(self.strangers.line(now, Reason::Rule, name), to);
+        let line = self.strangers.line(now, Reason::Rule, name);
+        drop(last);
+        tell_line(line, to);
     }
 }
 
