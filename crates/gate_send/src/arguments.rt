@@ -7,6 +7,7 @@ use clap::error::ErrorKind;
 use clap::{Arg, ArgAction, ArgMatches, Command, Error};
 use program_options::{NOT_DECIMAL, VERSION, number_given};
 use std::alloc::{AllocError, Global};
+use tap_journal::CAPACITY_LIMIT;
 
 /// The program's name in its help.
 const NAME: &str = "gate_send";
@@ -61,8 +62,6 @@ const ADDRESSES_HELP: &str =
     "The station's addresses and ports, as 192.168.1.10:7040: the next one is
 taken after a fault";
 
-/// The most touches that a gate's file has room for.
-pub(crate) const CAPACITY_LIMIT: u32 = 1_000_000;
 /// The highest number of a gate.
 const GATE_LIMIT: u32 = 65_535;
 /// The most tries of a request that can be asked for.

@@ -33,7 +33,7 @@ pub use commands::settled::{Settled, settled_file};
 pub use commands::verify::verify_journal;
 pub use fault::{AuditFault, GateFault, HeaderFault, SealFault};
 pub use gate_file::audit_gate_file;
-pub use history::date::{CLOCK_SIZE, DAY_LIMIT, DayPrinter, clock};
+pub use history::date::{CLOCK_SIZE, DAY_LIMIT, DAY_SECONDS, DayPrinter, clock};
 pub use history::wanted::{HistoryFormat, Wanted};
 pub use history::write_history;
 pub use laws::a_journal_has_no_cause_alone;

@@ -4,11 +4,8 @@ ghost use Rattle.std.specs.Prelude.{◌≡◌, ◌++◌, ◌∷◌, [], OnOk};
 ghost use Rattle.journal_audit.specs.Calendar.{day_text, moment_text};
 ghost use Rattle.statement_command.specs.Csv.{day_field, moment_field};
 
-use journal_audit::{DayPrinter, clock};
+use journal_audit::{DAY_SECONDS, DayPrinter, clock};
 use std::alloc::{AllocError, Global};
-
-/// The seconds of a day.
-const DAY_SECONDS: u32 = 86_400;
 
 /// A text, and what prints its days.
 #[derive(Drop)]
