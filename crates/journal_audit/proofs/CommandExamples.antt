@@ -14,7 +14,7 @@ use Rattle.journal_audit.specs.Differing.{other_table, other_cards, missing_tabl
 use Rattle.journal_audit.specs.Told.{told_fault}
 use Rattle.journal_audit.specs.declared.commands.fault.CommandFault.TheVariants.{Listen, Place, Behind, Balance, Seal}
 use Rattle.journal_audit.specs.declared.commands.fault.CommandFault.TheVariants.{Journal, Migrate}
-use Rattle.journal_audit.specs.declared.commands.fault.CommandFault.TheVariants.{SeatMissing, Mismatch}
+use Rattle.journal_audit.specs.declared.commands.fault.CommandFault.TheVariants.{SeatMissing, Mismatch, DeskMismatch}
 use Rattle.journal_audit.specs.declared.commands.fault.CommandFault.TheVariants.{Header, Gate, Card, Output}
 use Rattle.journal_audit.specs.declared.commands.output.TheConstants.{PIPE_STATUS}
 
@@ -33,9 +33,10 @@ a_fault_is_told_in_one_line :
     × (told_fault (Output no_detail) ≡ Some (codes "fault run 3 Write"))
     × (told_fault SeatMissing ≡ Some (codes "fault close 1 SeatMissing"))
     × (told_fault Mismatch ≡ Some (codes "fault close 2 Mismatch"))
+    × (told_fault DeskMismatch ≡ Some (codes "fault close 3 DeskMismatch"))
 unfolding digits
 a_fault_is_told_in_one_line =
-    (refl, refl, refl, refl, refl, refl, refl, refl, refl, refl, refl, refl, refl)
+    (refl, refl, refl, refl, refl, refl, refl, refl, refl, refl, refl, refl, refl, refl)
 
 -- the line of a fault that came of a part
 a_fault_of_a_part_is_told_as_the_commands :

@@ -19,6 +19,7 @@ use Rattle.journal_audit.specs.declared.commands.fault.CommandFault.TheVariants.
 use Rattle.journal_audit.specs.declared.commands.fault.CommandFault.TheVariants.{Door, Listen}
 use Rattle.journal_audit.specs.declared.commands.fault.CommandFault.TheVariants.{SeatMissing}
 use Rattle.journal_audit.specs.declared.commands.fault.CommandFault.TheVariants.{Mismatch}
+use Rattle.journal_audit.specs.declared.commands.fault.CommandFault.TheVariants.{DeskMismatch}
 
 -- the line of a fault: the name of its part, and what that part prints of it
 abbrev pub told_fault : CommandFault → Option (List ℕ)
@@ -39,3 +40,4 @@ told_fault (Listen _) = Some (codes "fault listen")
 told_fault (Output _) = told_trial (Run Write)
 told_fault SeatMissing = Some (codes "fault close 1 SeatMissing")
 told_fault Mismatch = Some (codes "fault close 2 Mismatch")
+told_fault DeskMismatch = Some (codes "fault close 3 DeskMismatch")

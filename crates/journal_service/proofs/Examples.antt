@@ -9,6 +9,7 @@ use Rattle.journal_service.specs.Serve.{serve_fault}
 a_failed_serving_is_told_by_its_cause :
     (told_fault (serve_fault (serves.Close closes.SeatMissing)) ≡ Some (codes "fault close 1 SeatMissing"))
     × (told_fault (serve_fault (serves.Close closes.Mismatch)) ≡ Some (codes "fault close 2 Mismatch"))
+    × (told_fault (serve_fault (serves.Close closes.DeskMismatch)) ≡ Some (codes "fault close 3 DeskMismatch"))
     × (told_fault (serve_fault serves.Memory) ≡ Some (codes "fault run 1 Memory"))
     × (told_fault (serve_fault serves.Write) ≡ Some (codes "fault run 3 Write"))
-a_failed_serving_is_told_by_its_cause = (refl, refl, refl, refl)
+a_failed_serving_is_told_by_its_cause = (refl, refl, refl, refl, refl)

@@ -14,3 +14,4 @@ serve_fault serves.Memory = faults.Trial (trials.Run runs.Memory)
 serve_fault serves.Write = faults.Trial (trials.Run runs.Write)
 serve_fault (serves.Close closes.SeatMissing) = faults.SeatMissing
 serve_fault (serves.Close closes.Mismatch) = faults.Mismatch
+serve_fault (serves.Close closes.DeskMismatch) = faults.DeskMismatch

@@ -303,6 +303,7 @@ fn fault_of(fault: ServeFault) -> CommandFault
         ServeFault::Write => RunFault::Write.into(),
         ServeFault::Close(CloseCause::SeatMissing) => CommandFault::SeatMissing,
         ServeFault::Close(CloseCause::Mismatch) => CommandFault::Mismatch,
+        ServeFault::Close(CloseCause::DeskMismatch) => CommandFault::DeskMismatch,
     }
 }
 

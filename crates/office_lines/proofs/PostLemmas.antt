@@ -18,7 +18,6 @@ use Rattle.gate_session.proofs.SessionLemmas.{row_long}
 use Rattle.tap_office.specs.Name.{Opened}
 use Rattle.tap_office.specs.Seat.{SeatState}
 use Rattle.oyster_account.specs.declared.touch.Touch.{Touch}
-use Rattle.gate_session.specs.declared.answer.Answer.TheVariants as answers
 use Rattle.reply_book.specs.declared.entry.Entry.{Entry}
 use Rattle.tap_office.specs.declared.receipt.Receipt.{Receipt}
 use Rattle.tap_office.specs.Receipt.{Files, filed_of}
@@ -128,7 +127,7 @@ ClerkGoesOn-more m n a b c first second = record {
 }
 
 -- a receipt files the touch, or it is a repeat's
-filed : {N : Type 0} {g : Ghosts N} (touch : Touch) (before after : SeatState) (receipt : Receipt N g)
+pub filed : {N : Type 0} {g : Ghosts N} (touch : Touch) (before after : SeatState) (receipt : Receipt N g)
     → Files touch before after receipt → GoesOn 1 before after
 filed touch before after receipt files = by_fresh receipt.fresh refl
   where
@@ -155,23 +154,27 @@ desk_kept : (before after : DeskState) → after.list ≡ before.list → after.
 desk_kept before after list points =
     DeskGoesOn-within 0 1 before after (omega arith) (DeskGoesOn-same before after list points)
 
+-- or the desk learns a log point
+desk_learnt : (before after : DeskState) (point : List Entry) → after.list ≡ before.list
+    → after.points ≡ point ∷ before.points → DeskGoesOn 1 before after
+desk_learnt before after point list learnt = record {
+  list = subst (λ (l : List Entry). IsPrefix before.list l) (sym list) (prefix_self before.list);
+  newer = point ∷ [];
+  points = learnt;
+  few = omega arith;
+}
+
 pub given-goes_on : (opened : Opened) (before after : ClerkState) (request : Request) (answer : Answer)
     → HasGiven opened before after request answer → ClerkGoesOn 1 before after
 given-goes_on opened before after (requests.Touch touch) answer given =
     elim given [
       | inl is ↦ record {
         seat = is.goes_on;
-        desk = record {
-          list = subst (λ (l : List Entry). IsPrefix before.desk.list l) (sym is.list) (prefix_self before.desk.list);
-          newer = is.point ∷ [];
-          points = is.learnt;
-          few = omega arith;
-        };
+        desk = desk_learnt before.desk after.desk is.point is.list is.learnt;
       }
       | inr is ↦ record {
         seat = kept before.seat after.seat is.kept;
-        desk = desk_kept before.desk after.desk (ap (λ (k : DeskState). k.list) is.desk)
-            (ap (λ (k : DeskState). k.points) is.desk);
+        desk = desk_learnt before.desk after.desk is.point is.list is.learnt;
       }
     ]
 given-goes_on opened before after (requests.Enquire card) answer given =

@@ -19,6 +19,7 @@ use Rattle.tap_office.specs.Enquiry.{IsAnswerFrom}
 use Rattle.tap_office.specs.Fault.{fault_code}
 use Rattle.tap_office.specs.Given.{IsLegalFor}
 use Rattle.tap_office.specs.Name.{Opened}
+use Rattle.tap_office.specs.Refusal.{IsCauseAfter}
 use Rattle.tap_office.specs.Seat.{SeatState}
 
 -- what a clerk has: its seat, and its desk with the list that it saw last and its log points
@@ -65,12 +66,19 @@ pub record IsReplied (opened : Opened) (before after : ClerkState) (touch : Touc
   pub list : after.desk.list ≡ before.desk.list
   pub is : answer ≡ answers.Reply touch.gate touch.number reply
 
--- a touch is answered by its fault, and seat and desk stay
-pub record IsRefused (before after : ClerkState) (touch : Touch) (answer : Answer) : Type 0 where
+-- a touch is answered by its fault, for its cause in the log point that the desk learnt, which is
+-- legal and begins with what the opening found; the seat stays
+pub record IsRefused (opened : Opened) (before after : ClerkState) (touch : Touch) (answer : Answer)
+    : Type 0 where
   pub fault : SubmitFault
+  pub point : List Entry
+  pub legal : IsLegalFor opened (history_of point)
+  pub begins : take (length opened.recovered) point ≡ opened.recovered
+  pub cause : IsCauseAfter opened point touch fault
   pub is : answer ≡ answers.Fault (fault_code fault) touch.gate touch.number
   pub kept : after.seat ≡ before.seat
-  pub desk : after.desk ≡ before.desk
+  pub learnt : after.desk.points ≡ point ∷ before.desk.points
+  pub list : after.desk.list ≡ before.desk.list
 
 -- an enquiry is answered by what is seen of the card after the desk's list, and by its length; that
 -- list begins with the one before and with each of the log points
@@ -94,6 +102,6 @@ pub record IsUntold (before after : ClerkState) (answer : Answer) : Type 0 where
 -- what a request is given
 abbrev pub HasGiven : Opened → ClerkState → ClerkState → Request → Answer → Type 0
 HasGiven opened before after (requests.Touch touch) answer =
-    IsReplied opened before after touch answer ⊎ IsRefused before after touch answer
+    IsReplied opened before after touch answer ⊎ IsRefused opened before after touch answer
 HasGiven opened before after (requests.Enquire card) answer =
     IsTold opened before after card answer ⊎ IsUntold before after answer

@@ -14,7 +14,8 @@ use tap_office::{Desk, Named, Office, Seat, SubmitFault};
 /// A clerk who answers from an office, at a seat and a desk of it.
 ///
 /// A touch is answered by its reply once every crash leaves it in the journal, or by its fault. The
-/// desk learns each receipt before its answer is given, so that no later enquiry here is of less.
+/// desk learns each receipt and each refusal before its answer is given, so that no later answer
+/// here is of less.
 /// An enquiry takes no lock: it is answered from what is published, or by the fault of a halted
 /// office, with no gate and no number, where the desk has nothing to answer from.
 ///
@@ -51,7 +52,9 @@ impl<N: Named, D: Disk, T: Watch> Clerk for OfficeClerk<'_, N, D, T> {
                     reply,
                 }
             }
-            Err(fault) => {
+            Err(refusal) => {
+                let fault = refusal.fault;
+                self.desk.learn_refusal(refusal);
                 watch.refused(fault, said_of(rt, self.office, fault));
                 Answer::Fault {
                     code: fault.code(),

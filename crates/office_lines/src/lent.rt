@@ -8,9 +8,9 @@ use std::sync::Wait;
 
 /// A clerk that is lent: it answers as the clerk itself, and stays the one that was lent.
 #[derive(Drop)]
-pub(crate) struct Lent<'a, C> {
+pub struct Lent<'a, C> {
     /// The clerk.
-    pub(crate) clerk: &'a mut C,
+    pub clerk: &'a mut C,
 }
 
 impl<C: Clerk> Clerk for Lent<'_, C> {

@@ -33,17 +33,26 @@ pub fn tallies_of<L, N: Named>(posts: &[Post<L, N>], ready: Vec<Tally>) -> Vec<T
     tallies
 }
 
-/// The posts' seats, in the place that is ready for them, the last post's first.
-pub fn seats_of<L: Drop, N: Named>(posts: Vec<Post<L, N>>, ready: Vec<Seat<N>>) -> Vec<Seat<N>>
+/// The posts' seats and desks, in the places that are ready for them, the last post's first.
+pub fn seats_and_desks<L: Drop, N: Named>(
+    posts: Vec<Post<L, N>>,
+    ready: Vec<Seat<N>>,
+    ready_desks: Vec<Desk<N>>,
+) -> (Vec<Seat<N>>, Vec<Desk<N>>)
     requires empty { ready.items ≡ [] }
     requires room { length posts.items ≤ vec_capacity ready }
-    ensures { result.items ≡ map (λ post. post.seat) (reverse posts.items) }
+    requires no_desks { ready_desks.items ≡ [] }
+    requires desk_room { length posts.items ≤ vec_capacity ready_desks }
+    ensures seats { result.0.items ≡ map (λ post. post.seat) (reverse posts.items) }
+    ensures desks { result.1.items ≡ map (λ post. post.desk) (reverse posts.items) }
 {
     let mut posts = posts;
     let mut seats = ready;
+    let mut desks = ready_desks;
     while let Some(post) = posts.pop() {
-        let Post { seat, .. } = post;
+        let Post { seat, desk, .. } = post;
         seats.push_reserved(seat);
+        desks.push_reserved(desk);
     }
-    seats
+    (seats, desks)
 }

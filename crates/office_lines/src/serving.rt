@@ -9,7 +9,7 @@ use crate::fault::ServeFault;
 use crate::gate_line::GateLine;
 use crate::notice::Watch;
 use crate::post::{Post, Service, serve_all};
-use crate::posts::{seats_of, tallies_of};
+use crate::posts::{seats_and_desks, tallies_of};
 use crate::report::{write_opened, write_report};
 use crate::tally::Tally;
 use std::alloc::{AllocError, Global};
@@ -19,7 +19,7 @@ use std::thread;
 use std::thread::Threads;
 use std::time::Clock;
 use tap_disk::Disk;
-use tap_office::{Named, Office, Seat};
+use tap_office::{Desk, Named, Office, Seat};
 
 /// An office with the posts that serve from it, and with the memory that its end needs.
 #[derive(Drop)]
@@ -30,6 +30,8 @@ struct Ready<'a, L, N: Named, D: Disk, T> {
     posts: Vec<Post<L, N>>,
     /// Where the seats are put, at the end.
     seats: Vec<Seat<N>>,
+    /// Where the desks are put.
+    desks: Vec<Desk<N>>,
     /// Where the tallies are put.
     tallies: Vec<Tally>,
 }
@@ -87,15 +89,19 @@ fn ready_for<'a, L: Drop, N: Named, D: Disk + Drop, T>(
     ensures posts { IfOk result (λ ready. ready.posts.items ≡ posts.items) }
     ensures no_seats { IfOk result (λ ready. ready.seats.items ≡ []) }
     ensures no_tallies { IfOk result (λ ready. ready.tallies.items ≡ []) }
+    ensures no_desks { IfOk result (λ ready. ready.desks.items ≡ []) }
     ensures seats { IfOk result (λ ready. length posts.items ≤ vec_capacity ready.seats) }
+    ensures desks { IfOk result (λ ready. length posts.items ≤ vec_capacity ready.desks) }
     ensures tallies { IfOk result (λ ready. length posts.items ≤ vec_capacity ready.tallies) }
 {
     let seats = Vec::with_capacity(alloc, posts.len())?;
+    let desks = Vec::with_capacity(alloc, posts.len())?;
     let tallies = Vec::with_capacity(alloc, posts.len())?;
     Ok(Ready {
         service,
         posts,
         seats,
+        desks,
         tallies,
     })
 }
@@ -112,6 +118,8 @@ fn serve_watched<
     requires no_seats { ready.seats.items ≡ [] }
     requires no_tallies { ready.tallies.items ≡ [] }
     requires seats { length ready.posts.items ≤ vec_capacity ready.seats }
+    requires no_desks { ready.desks.items ≡ [] }
+    requires desks { length ready.posts.items ≤ vec_capacity ready.desks }
     requires tallies { length ready.posts.items ≤ vec_capacity ready.tallies }
 {
     let over = Over::new();
@@ -125,6 +133,8 @@ fn serve_watched<
             requires no_seats { ready.seats.items ≡ [] }
             requires no_tallies { ready.tallies.items ≡ [] }
             requires seats { length ready.posts.items ≤ vec_capacity ready.seats }
+            requires no_desks { ready.desks.items ≡ [] }
+            requires desks { length ready.posts.items ≤ vec_capacity ready.desks }
             requires tallies { length ready.posts.items ≤ vec_capacity ready.tallies }
         { serve_ready(rt, alloc, ready, &over) },
     );
@@ -143,19 +153,23 @@ fn serve_ready<
     requires no_seats { ready.seats.items ≡ [] }
     requires no_tallies { ready.tallies.items ≡ [] }
     requires seats { length ready.posts.items ≤ vec_capacity ready.seats }
+    requires no_desks { ready.desks.items ≡ [] }
+    requires desks { length ready.posts.items ≤ vec_capacity ready.desks }
     requires tallies { length ready.posts.items ≤ vec_capacity ready.tallies }
 {
     let Ready {
         service,
         posts,
         seats,
+        desks,
         tallies,
     } = ready;
     let mut posts = posts;
     serve_all(rt, alloc, &service, posts.as_mut_slice());
     over.set();
     let tallies = tallies_of(posts.as_slice(), tallies);
-    let (halted, entries) = close_office(rt, service.office, seats_of(posts, seats))?;
+    let (seats, desks) = seats_and_desks(posts, seats, desks);
+    let (halted, entries) = close_office(rt, service.office, seats, &desks)?;
     Ok(Ended {
         tallies,
         halted,
@@ -168,8 +182,9 @@ fn close_office<N: Named, D: Disk + Drop, R: Wait>(
     rt: &R,
     office: Office<N, D>,
     seats: Vec<Seat<N>>,
+    desks: &[Desk<N>],
 ) -> Result<(bool, u32), ServeFault> {
-    match office.close(rt, seats) {
+    match office.close(rt, seats, desks) {
         Ok(closed) => Ok((closed.halted, closed.book.len())),
         Err(fault) => Err(ServeFault::Close(fault.cause)),
     }

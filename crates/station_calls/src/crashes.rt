@@ -188,7 +188,7 @@ fn disk_of<N: Named, R: Wait>(
 ) -> MemoryDisk
     ensures { result ≡ keeper.disk }
 {
-    match keeper.close(rt, seats) {
+    match keeper.close(rt, seats, &[]) {
         Ok(closed) => {
             let Closed {
                 book: _,

@@ -3,9 +3,11 @@ ghost use Rattle.std.specs.Prelude.{◌≡◌, ◌≢◌, ◌↔◌, ◌-◌, �
 ghost use Rattle.std.specs.Prelude.{IsTrue, MatchResult};
 ghost use Rattle.std.specs.List.{All, sum_by};
 ghost use Rattle.reply_book.specs.Book.{entries_of};
+ghost use Rattle.tap_desk.specs.Listed.{HaveGrownTo};
 ghost use Rattle.tap_office.specs.Keeper.{IsHaltedByDisk};
 ghost use Rattle.tap_office.specs.Close.{AreAtPlaces, IsReady, Settles, IsEnd};
 
+use crate::desk::Desk;
 use crate::fault::CloseCause;
 use crate::keeper::Keeper;
 use crate::name::{Named, Numbers};
@@ -13,6 +15,7 @@ use crate::seat::Seat;
 use reply_book::Book;
 use std::sync::Wait;
 use std::sync::ledger::Share;
+use tap_desk::Publisher;
 use tap_disk::Disk;
 
 /// What is left of an office that was closed.
@@ -24,6 +27,22 @@ pub struct Closed<D> {
     pub disk: D,
     /// The disk had failed at a touch: it has that touch or not, and has to be opened again.
     pub halted: bool,
+}
+
+impl<D> Closed<D> {
+    /// What is left, and why the office was not closed.
+    fn unclosed(self, cause: CloseCause) -> CloseFault<D>
+        ensures { (result.cause ≡ cause) × (result.book ≡ self.book) × (result.disk ≡ self.disk)
+            × (result.halted ≡ self.halted) }
+    {
+        let Closed { book, disk, halted } = self;
+        CloseFault {
+            cause,
+            book,
+            disk,
+            halted,
+        }
+    }
 }
 
 /// Why an office was not closed, and what is left of it.
@@ -40,13 +59,21 @@ pub struct CloseFault<D> {
 }
 
 impl<N: Named, D: Disk> Keeper<N, D> {
-    /// Closes the book against all seats' receipts. No memory is taken, and no disk call is made.
-    /// It ends what is published, and waits for desks that read.
+    /// Closes the book against all seats' receipts and what these desks have learnt. No memory is
+    /// taken, and no disk call is made. It ends what is published, and waits for desks that read.
     ///
-    /// `SeatMissing` and `Mismatch` come as `Office::close` says, with the book and the disk.
-    pub fn close<R: Wait>(self, rt: &R, seats: Vec<Seat<N>>) -> Result<Closed<D>, CloseFault<D>>
+    /// `SeatMissing`, `Mismatch` and `DeskMismatch` come as `Office::close` says, with the book and
+    /// the disk.
+    pub fn close<R: Wait>(
+        self,
+        rt: &R,
+        seats: Vec<Seat<N>>,
+        desks: &[Desk<N>],
+    ) -> Result<Closed<D>, CloseFault<D>>
         ensures settles { IfOk result (λ r. Settles N.opened.recovered N.opened.seats seats.items
             (entries_of r.book)) }
+        ensures learnt { IfOk result (λ r. All (λ desk. HaveGrownTo desk.points
+            (entries_of r.book)) desks.now) }
         ensures rest { MatchResult result
             (λ r. IsEnd D.honest D.content D.outcome N.opened r.book r.halted r.disk)
             (λ r. IsEnd D.honest D.content D.outcome N.opened r.book r.halted r.disk) }
@@ -77,28 +104,23 @@ impl<N: Named, D: Disk> Keeper<N, D> {
             numbers,
             mark,
         } = self;
+        let has_all = are_in(&publisher, desks);
         let _published = publisher.close(rt);
         let disk = journal.close();
+        let closed = Closed { book, disk, halted };
         if seats.len() != made as usize {
-            return Err(CloseFault {
-                cause: CloseCause::SeatMissing,
-                book,
-                disk,
-                halted,
-            });
+            return Err(closed.unclosed(CloseCause::SeatMissing));
         }
-        if !all_stand(&book, &seats) {
-            return Err(CloseFault {
-                cause: CloseCause::Mismatch,
-                book,
-                disk,
-                halted,
-            });
+        if !all_stand(&closed.book, &seats) {
+            return Err(closed.unclosed(CloseCause::Mismatch));
+        }
+        if !has_all {
+            return Err(closed.unclosed(CloseCause::DeskMismatch));
         }
         let (mut all, mut marks) = gather(seats, share, mark);
         ledger.audit(&mut all);
         numbers.audit(&mut marks);
-        Ok(Closed { book, disk, halted })
+        Ok(closed)
     }
 }
 
@@ -109,6 +131,19 @@ fn all_stand<N: Named>(book: &Book, seats: &[Seat<N>]) -> bool
 {
     for seat in seats {
         if !seat.stands(book) {
+            return false;
+        }
+    }
+    true
+}
+
+/// Whether the published list is seen to begin with each log point of these desks, and each of them
+/// with all that its desk learnt before.
+fn are_in<N: Named>(publisher: &Publisher<N>, desks: &[Desk<N>]) -> bool
+    ensures { IsTrue result → All (λ desk. HaveGrownTo desk.points publisher.now.list) desks.now }
+{
+    for desk in desks {
+        if !desk.is_in(publisher) {
             return false;
         }
     }

@@ -1,9 +1,9 @@
 //! Where balances are asked for, with no lock and no memory.
-ghost use Rattle.std.specs.Prelude.{◌≡◌, ◌∷◌, [], IfOk, IfErr, IfSome, IfNone};
+ghost use Rattle.std.specs.Prelude.{◌≡◌, ◌∷◌, [], IsTrue, IfOk, IfErr, IfSome, IfNone};
 ghost use mathlib.Core.List.{IsPrefix};
 ghost use Rattle.reply_book.specs.Book.{entries_of, cards_of};
 ghost use Rattle.tap_desk.specs.CommitLog.{logged, table_of};
-ghost use Rattle.tap_desk.specs.Listed.{BeginsWith};
+ghost use Rattle.tap_desk.specs.Listed.{BeginsWith, HaveGrownTo};
 ghost use Rattle.tap_desk.specs.LogPoints.{logged_at};
 ghost use Rattle.tap_desk.specs.Publishing.{IsTableOf};
 ghost use Rattle.tap_office.specs.Enquiry.{IsTableFor, IsAnswerFrom};
@@ -11,6 +11,7 @@ ghost use Rattle.tap_office.specs.Opening.{AreNewDesks, IsShort};
 
 use crate::name::Named;
 use crate::receipt::Receipt;
+use crate::refusal::Refusal;
 use reply_book::Book;
 use std::alloc::Global;
 use std::marker::Model;
@@ -21,7 +22,7 @@ use tap_journal::JournalFault;
 /// From where balances are asked for: an opening makes one for each seat.
 ///
 /// Contracts see it as its list, what its last answered enquiry saw (the recovered history at
-/// first), and its log points, those of the receipts that it learnt.
+/// first), and its log points, those of the receipts and of the refusals that it learnt.
 pub struct Desk<N: Named> {
     desk: tap_desk::Desk<N>,
 }
@@ -63,6 +64,23 @@ impl<N: Named> Desk<N> {
         ensures points { self.new.points ≡ logged_at receipt.point ∷ self.old.points }
     {
         self.desk.learn(receipt.point);
+    }
+
+    /// Adds the refusal's log point to the desk's, as `learn` does. The refusal's fault is read
+    /// before.
+    pub fn learn_refusal(&mut self, refusal: Refusal<N>)
+        ensures list { self.new.list ≡ self.old.list }
+        ensures points { self.new.points ≡ logged_at refusal.point ∷ self.old.points }
+    {
+        self.desk.learn(refusal.point);
+    }
+
+    /// Whether the published list is seen to begin with each of the desk's log points, and each of
+    /// them with all that the desk learnt before.
+    pub(crate) fn is_in(&self, publisher: &Publisher<N>) -> bool
+        ensures { IsTrue result → HaveGrownTo self.now.points publisher.now.list }
+    {
+        publisher.has_points_of(&self.desk)
     }
 
     /// What is seen of a card after all entries that are published, and how many these are. A

@@ -60,4 +60,7 @@ pub enum CloseCause {
     /// A receipt doesn't stand at its place.
     #[error("a receipt doesn't stand at its place")]
     Mismatch,
+    /// A desk has learnt what isn't seen to be a beginning of the history, or not in its order.
+    #[error("a desk has learnt another history")]
+    DeskMismatch,
 }

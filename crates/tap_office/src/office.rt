@@ -1,19 +1,23 @@
 //! The office: a keeper behind a lock.
-ghost use Rattle.std.specs.Prelude.{◌≡◌, ◌≢◌, ◌↔◌, length, IfOk, OnErr, MatchResult};
+ghost use Rattle.std.specs.Prelude.{◌≡◌, ◌≢◌, ◌↔◌, length, IfOk, IfErr, OnErr, MatchResult};
 ghost use Rattle.std.specs.List.{All};
 ghost use Rattle.reply_book.specs.Book.{entries_of};
+ghost use Rattle.tap_desk.specs.Listed.{HaveGrownTo};
 ghost use Rattle.tap_desk.specs.LogPoints.{logged_at};
 ghost use Rattle.tap_office.specs.Receipt.{IsPoint, Files};
+ghost use Rattle.tap_office.specs.Refusal.{IsRefusedAt};
 ghost use Rattle.tap_office.specs.Keeper.{IsHaltedByDisk};
 ghost use Rattle.tap_office.specs.Room.{IsRoomFor};
 ghost use Rattle.tap_office.specs.Close.{AreAtPlaces, Settles, IsEnd};
 
 use crate::board::Board;
 use crate::close::{CloseFault, Closed};
-use crate::fault::{CloseCause, SubmitFault};
+use crate::desk::Desk;
+use crate::fault::CloseCause;
 use crate::keeper::Keeper;
 use crate::name::Named;
 use crate::receipt::Receipt;
+use crate::refusal::Refusal;
 use crate::seat::Seat;
 use crate::sync_times;
 use oyster_account::Touch;
@@ -76,15 +80,17 @@ impl<N: Named, D: Disk> Office<N, D> {
     /// for its receipt first, so that nobody waits for that.
     ///
     /// The receipt's touch is the one that was handed in, and its reply stands beside that touch at
-    /// its place in a legal history that begins with the recovered one. A fault leaves the seat.
+    /// its place in a legal history that begins with the recovered one. A fault leaves the seat; it
+    /// has its cause in such a history too, and the refusal has the log point of that one.
     pub fn submit<R: Wait>(
         &self,
         rt: &R,
         seat: &mut Seat<N>,
         touch: Touch,
-    ) -> Result<Receipt<N>, SubmitFault>
+    ) -> Result<Receipt<N>, Refusal<N>>
         ensures files { IfOk result (Files touch seat.old seat.new) }
         ensures point { IfOk result (λ r. IsPoint N.opened (logged_at r.point) r) }
+        ensures cause { IfErr result (λ r. IsRefusedAt N.opened touch (logged_at r.point) r.fault) }
         ensures kept { OnErr result (seat.new ≡ seat.old) }
     {
         seat.make_room();
@@ -92,7 +98,7 @@ impl<N: Named, D: Disk> Office<N, D> {
         let behind = self.board.behind(rt, turn);
         let mut keeper = self.keeper.lock(rt);
         let begun = sync_times::now();
-        let answer = keeper.commit_ahead(rt, seat, touch, move || behind.touch());
+        let answer = keeper.submit(rt, seat, touch, move || behind.touch());
         if is_fresh(&answer) {
             self.board.times.note(begun);
         }
@@ -120,17 +126,29 @@ impl<N: Named, D: Disk> Office<N, D> {
         keeper.journal.error()
     }
 
-    /// Closes the office against its seats' receipts: the history is what was found at the opening
-    /// and what the seats filed, and nothing else. No memory is taken, and no disk call is made.
+    /// Closes the office against its seats' receipts and what these desks have learnt: the history
+    /// is what was found at the opening and what the seats filed, and nothing else, and begins with
+    /// each log point that one of the desks has; each of these begins with all that the same desk
+    /// learnt before. So all that they answered is of this one history, in the desk's order.
+    /// No memory is taken, and no disk call is made.
     /// Desks answer nothing from then on; it waits for those that read. `halted` comes only where a
     /// call of the disk has failed.
     ///
     /// `SeatMissing` comes where there are not as many seats as were made, and then `Mismatch`
-    /// where a receipt doesn't stand at its place. In each case the book and the disk are handed
-    /// back.
-    pub fn close<R: Wait>(self, rt: &R, seats: Vec<Seat<N>>) -> Result<Closed<D>, CloseFault<D>>
+    /// where a receipt doesn't stand at its place, and then `DeskMismatch` where a desk learnt a
+    /// shorter log point after a longer one, or the history isn't seen to begin with a log point;
+    /// tests show that it never comes where each desk learnt its answers in the order of their log
+    /// points, as a connection's desk does. In each case the book and the disk are handed back.
+    pub fn close<R: Wait>(
+        self,
+        rt: &R,
+        seats: Vec<Seat<N>>,
+        desks: &[Desk<N>],
+    ) -> Result<Closed<D>, CloseFault<D>>
         ensures settles { IfOk result (λ r. Settles N.opened.recovered N.opened.seats seats.items
             (entries_of r.book)) }
+        ensures learnt { IfOk result (λ r. All (λ desk. HaveGrownTo desk.points
+            (entries_of r.book)) desks.now) }
         ensures rest { MatchResult result
             (λ r. IsEnd D.honest D.content D.outcome N.opened r.book r.halted r.disk)
             (λ r. IsEnd D.honest D.content D.outcome N.opened r.book r.halted r.disk) }
@@ -152,12 +170,12 @@ impl<N: Named, D: Disk> Office<N, D> {
             board: _,
             recovered: _,
         } = self;
-        keeper.into_inner().close(rt, seats)
+        keeper.into_inner().close(rt, seats, desks)
     }
 }
 
 /// Whether a touch was committed that is new: the disk was called for it.
-fn is_fresh<N: Named>(answer: &Result<Receipt<N>, SubmitFault>) -> bool {
+fn is_fresh<N: Named>(answer: &Result<Receipt<N>, Refusal<N>>) -> bool {
     match answer {
         Ok(receipt) => receipt.fresh,
         Err(_) => false,

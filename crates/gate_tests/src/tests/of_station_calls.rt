@@ -110,8 +110,8 @@ fn closed_disk<N: Named, R: Wait>(
 ) -> Option<MemoryDisk>
     requires { IsNameOf N.opened N.name N.parts N.commit_log N.table (opened_of opening) }
 {
-    let (keeper, seats, _desks) = keeper_in_steps::<N, MemoryDisk, R>(rt, alloc, opening).ok()?;
-    Some(keeper.close(rt, seats).ok()?.disk)
+    let (keeper, seats, desks) = keeper_in_steps::<N, MemoryDisk, R>(rt, alloc, opening).ok()?;
+    Some(keeper.close(rt, seats, &desks).ok()?.disk)
 }
 
 /// The opening of a new journal whose disk fails at this call of its first touch.
@@ -160,14 +160,14 @@ fn settled_by<N: Named, R: Abort + Wait>(
 ) -> Option<(Result<Reply, SettleFault>, u32)>
     requires { IsNameOf N.opened N.name N.parts N.commit_log N.table (opened_of opening) }
 {
-    let (keeper, seats, _desks) = keeper_in_steps::<N, MemoryDisk, R>(rt, alloc, opening).ok()?;
+    let (keeper, seats, desks) = keeper_in_steps::<N, MemoryDisk, R>(rt, alloc, opening).ok()?;
     let mut keeper = keeper;
     let mut seats = seats;
     let waits = client.waiting().is_some();
     assert!(rt; waits);
     let seat = seats.first_mut()?;
     let heard = settle_in_steps(rt, alloc, client, &mut keeper, seat);
-    let closed = keeper.close(rt, seats).ok()?;
+    let closed = keeper.close(rt, seats, &desks).ok()?;
     Some((heard, closed.book.len()))
 }
 

@@ -59,6 +59,8 @@ pub enum CommandFault {
     SeatMissing,
     /// A receipt doesn't stand at its place. No run shows it.
     Mismatch,
+    /// A desk has learnt another history. No run shows it.
+    DeskMismatch,
 }
 
 /// Prints the line that standard error gets of the fault, without its line feed. It is written by
@@ -84,6 +86,7 @@ impl fmt::Display for CommandFault {
             CommandFault::Output(_) => f.write_str("fault run 3 Write"),
             CommandFault::SeatMissing => f.write_str("fault close 1 SeatMissing"),
             CommandFault::Mismatch => f.write_str("fault close 2 Mismatch"),
+            CommandFault::DeskMismatch => f.write_str("fault close 3 DeskMismatch"),
         }
     }
 }

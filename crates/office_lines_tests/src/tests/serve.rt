@@ -7,7 +7,9 @@ ghost use Rattle.tap_office.specs.Opening.{opened_of};
 use super::notices::Unwatched;
 use super::scripts::{Frame, Heard, Script, ScriptLine, whole};
 use super::*;
-use office_lines::{GateLine, Post, Service, Tally, new_post, seats_of, serve_all, tallies_of};
+use office_lines::{
+    GateLine, Post, Service, Tally, new_post, seats_and_desks, serve_all, tallies_of,
+};
 use station_door::StationDoor;
 use std::alloc::AllocError;
 use std::marker::Brand;
@@ -40,15 +42,17 @@ fn posts_of<'a, N: Named, R: AllocGlobal>(
     Ok(posts)
 }
 
-/// Closes an office against its posts' seats, and tells how many entries the history has.
+/// Closes an office against its posts' seats and desks, and tells how many entries the history has.
 fn close_posts<L: Drop, N: Named, R: AllocGlobal + Wait>(
     rt: &R,
     office: Office<N, MemoryDisk>,
     posts: Vec<Post<L, N>>,
 ) -> Result<u32, Fail> {
     let seats = Vec::with_capacity(rt.alloc(), posts.len())?;
+    let desks = Vec::with_capacity(rt.alloc(), posts.len())?;
+    let (seats, desks) = seats_and_desks(posts, seats, desks);
     let closed = office
-        .close(rt, seats_of(posts, seats))
+        .close(rt, seats, &desks)
         .ok()
         .ok_or("the office wasn't closed")?;
     Ok(closed.book.len())

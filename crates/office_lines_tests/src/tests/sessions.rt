@@ -168,7 +168,7 @@ fn sessions<N: Named, R: Wait>(
         desks.as_mut_slice(),
         (first, second),
     )?;
-    let closed = office.close(rt, seats).ok()?;
+    let closed = office.close(rt, seats, &desks).ok()?;
     Some(Outcomes {
         first,
         second,

@@ -6,6 +6,7 @@ mod keepers;
 mod memory;
 mod migration;
 mod openings;
+mod orders;
 mod revisions;
 mod room;
 mod rounds;

@@ -164,21 +164,28 @@ fn assert_answered<N: Named>(rt: &impl Abort, worker: &Worker<N>) {
     assert_same(rt, worker.log.answers, answers);
 }
 
-/// The workers' seats, and what each worker was answered.
+/// The workers' seats and desks, and what each worker was answered.
 fn left_by<N: Named>(
     rt: &impl Abort,
     alloc: Global,
     workers: Vec<Worker<N>>,
-) -> (Vec<Seat<N>>, Vec<Vec<Enquiry>>) {
+) -> (Vec<Seat<N>>, Vec<Desk<N>>, Vec<Vec<Enquiry>>) {
     let mut seats = Vec::new(alloc);
+    let mut desks = Vec::new(alloc);
     let mut answered = Vec::new(alloc);
     for worker in workers {
         assert_answered(rt, &worker);
-        let Worker { seat, log, .. } = worker;
+        let Worker {
+            seat,
+            desk,
+            log,
+            ..
+        } = worker;
         seats.push(seat).ok().expect(rt, "memory");
+        desks.push(desk).ok().expect(rt, "memory");
         answered.push(log.answered).ok().expect(rt, "memory");
     }
-    (seats, answered)
+    (seats, desks, answered)
 }
 
 /// The touches of a book, oldest first.
@@ -206,9 +213,9 @@ fn commit_and_ask<N: Named + Send + Sync, R: Threads + Wait + Sync + Abort>(
     let mut workers = workers_of(rt, alloc, seats, desks);
     assert!(rt; !workers.is_empty());
     work_all(rt, &office, workers.as_mut_slice());
-    let (seats, answered) = left_by(rt, alloc, workers);
+    let (seats, desks, answered) = left_by(rt, alloc, workers);
     let closed = office
-        .close(rt, seats)
+        .close(rt, seats, &desks)
         .ok()
         .expect(rt, "the office wasn't closed");
     let touches = touches_in(alloc, &closed.book).expect(rt, "an entry is missing");

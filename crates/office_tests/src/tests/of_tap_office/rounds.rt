@@ -15,7 +15,7 @@ use super::steps::{try_work, worked};
 use super::*;
 use std::marker::Brand;
 use std::sync::Wait;
-use tap_office::{Named, Office, Seat, same_files_keep_replies};
+use tap_office::{Desk, Named, Office, Seat, same_files_keep_replies};
 
 /// An opening of the disk for two seats, by the one table that is read from the text of a file.
 fn opened_by(alloc: Global, text: &str, disk: MemoryDisk) -> Option<Opening<MemoryDisk>>
@@ -46,6 +46,7 @@ fn next_round<N: Named, R: Wait>(
     text: &str,
     office: Office<N, MemoryDisk>,
     seats: Vec<Seat<N>>,
+    desks: &[Desk<N>],
     choice: Choice,
 ) -> Option<(Book, Opening<MemoryDisk>)>
     requires { (tables : Tables) → IsGiven N.opened tables
@@ -54,7 +55,7 @@ fn next_round<N: Named, R: Wait>(
         → slice_get (history_of (entries_of r.0)) place ≡ Some judged
         → slice_get (history_of r.1.recovered) place ≡ Some judged) }
 {
-    let Ok(closed) = office.close(rt, seats) else {
+    let Ok(closed) = office.close(rt, seats, desks) else {
         return None;
     };
     let Closed { book, disk, halted } = closed;
@@ -82,12 +83,12 @@ fn through_a_crash<N: Named, R: Wait + Abort>(
     requires name { IsNameOf N.opened N.name N.parts N.commit_log N.table (opened_of opening) }
     requires file { AreReadFrom (EXAMPLE_TABLE.now ∷ []) (listed opening.tables) }
 {
-    let (office, mut seats, _desks) = opening.office::<N, R>(rt, alloc).ok()?;
+    let (office, mut seats, desks) = opening.office::<N, R>(rt, alloc).ok()?;
     let seat = seats.first_mut()?;
     for touch in [ISSUE, TOP_UP, ENTER, LEAVE] {
         office.submit(rt, seat, touch).ok()?;
     }
-    let (_book, next) = next_round(rt, alloc, EXAMPLE_TABLE, office, seats, choice)?;
+    let (_book, next) = next_round(rt, alloc, EXAMPLE_TABLE, office, seats, &desks, choice)?;
     Some(next)
 }
 

@@ -6,7 +6,7 @@ use super::*;
 use std::fmt::Display;
 use std::marker::Brand;
 use std::sync::Wait;
-use tap_office::{Desk, Filed, Named, Office, Receipt, Seat};
+use tap_office::{Desk, Filed, Named, Office, Receipt, Refusal, Seat};
 
 /// How an office of two seats was worked through.
 #[derive(Clone, Copy, Debug, PartialEq, Eq)]
@@ -52,8 +52,24 @@ pub fn learn<N: Named>(rt: &impl Abort, desk: &mut Desk<N>, receipt: Receipt<N>)
     answer
 }
 
+/// Has a desk learn what a touch was answered.
+fn learn_answer<N: Named>(
+    rt: &impl Abort,
+    desk: &mut Desk<N>,
+    answer: Result<Receipt<N>, Refusal<N>>,
+) -> Answer {
+    match answer {
+        Ok(receipt) => learn(rt, desk, receipt),
+        Err(refusal) => {
+            let fault = refusal.fault;
+            desk.learn_refusal(refusal);
+            Answer::Fault(fault)
+        }
+    }
+}
+
 /// Submits a touch, and once more where memory was refused: it wasn't committed then. The desk
-/// learns its receipt.
+/// learns each answer.
 fn submit_again<N: Named, R: Wait + Abort>(
     rt: &R,
     office: &Office<N, MemoryDisk>,
@@ -61,14 +77,11 @@ fn submit_again<N: Named, R: Wait + Abort>(
     desk: &mut Desk<N>,
     touch: Touch,
 ) -> Answer {
-    match office.submit(rt, seat, touch) {
-        Ok(receipt) => learn(rt, desk, receipt),
-        Err(SubmitFault::Memory) => match office.submit(rt, seat, touch) {
-            Ok(receipt) => learn(rt, desk, receipt),
-            Err(fault) => Answer::Fault(fault),
-        },
-        Err(fault) => Answer::Fault(fault),
+    let answer = learn_answer(rt, desk, office.submit(rt, seat, touch));
+    if answer == Answer::Fault(SubmitFault::Memory) {
+        return learn_answer(rt, desk, office.submit(rt, seat, touch));
     }
+    answer
 }
 
 /// A seat's last receipt is that of a new touch which was answered here.
@@ -84,7 +97,7 @@ fn assert_filed<N: Named>(rt: &impl Abort, seat: &Seat<N>, touch: Touch, answer:
 }
 
 /// Submits the touches until one isn't answered as it is to be, and tells which. The desk learns
-/// each receipt.
+/// each answer.
 fn submit_steps<N: Named, R: Wait + Abort>(
     rt: &R,
     office: &Office<N, MemoryDisk>,
@@ -108,27 +121,31 @@ fn submit_steps<N: Named, R: Wait + Abort>(
     None
 }
 
-/// Two desks, of which the first is to learn receipts.
-fn two_desks<N: Named>(rt: &impl Abort, desks: Vec<Desk<N>>) -> (Desk<N>, Desk<N>) {
-    let mut desks = desks;
-    let desk = desks.pop().expect(rt, "no desk was made");
-    (desks.pop().expect(rt, "one desk was made"), desk)
+/// The first desk, which is to learn answers.
+fn learner_of<'a, N: Named>(rt: &impl Abort, desks: &'a mut [Desk<N>]) -> &'a mut Desk<N> {
+    desks.first_mut().expect(rt, "no desk was made")
 }
 
-/// Closes an office with as many of its seats as are not kept back. This desk answers no more.
+/// What the last desk is answered of card 1: it learns nothing.
+fn asked_last<N: Named>(rt: &impl Abort, desks: &mut [Desk<N>]) -> Option<Enquiry> {
+    desks.last_mut().expect(rt, "no desk was made").enquire(1)
+}
+
+/// Closes an office with as many of its seats as are not kept back, and against these desks. The
+/// first answers no more.
 fn close<N: Named, R: Wait + Abort>(
     rt: &R,
     office: Office<N, MemoryDisk>,
     seats: Vec<Seat<N>>,
     kept_back: usize,
-    learner: &mut Desk<N>,
+    desks: &mut [Desk<N>],
 ) -> (End, MemoryDisk) {
     let mut seats = seats;
     for _ in 0..kept_back {
         let _kept = seats.pop();
     }
-    let closed = office.close(rt, seats);
-    assert_same(rt, learner.enquire(1), None);
+    let closed = office.close(rt, seats, desks);
+    assert_same(rt, learner_of(rt, desks).enquire(1), None);
     end_of(closed)
 }
 
@@ -143,17 +160,17 @@ fn work_through<N: Named, R: Wait + Abort>(
 ) -> Result<(Outcome, MemoryDisk), OpenFault<MemoryDisk>>
     requires { IsNameOf N.opened N.name N.parts N.commit_log N.table (opened_of opening) }
 {
-    let (office, mut seats, desks) = opening.office::<N, R>(rt, alloc)?;
-    let (mut learner, mut desk) = two_desks(rt, desks);
-    let stray = submit_steps(rt, &office, seats.as_mut_slice(), &mut learner, steps);
+    let (office, mut seats, mut desks) = opening.office::<N, R>(rt, alloc)?;
+    let learner = learner_of(rt, desks.as_mut_slice());
+    let stray = submit_steps(rt, &office, seats.as_mut_slice(), learner, steps);
     let opened = office.opened();
-    let asked = desk.enquire(1);
-    let (end, disk) = close(rt, office, seats, kept_back, &mut learner);
+    let asked = asked_last(rt, desks.as_mut_slice());
+    let (end, disk) = close(rt, office, seats, kept_back, desks.as_mut_slice());
     let outcome = Outcome {
         opened,
         stray,
         asked,
-        asked_late: desk.enquire(1),
+        asked_late: asked_last(rt, desks.as_mut_slice()),
         end,
     };
     Ok((outcome, disk))

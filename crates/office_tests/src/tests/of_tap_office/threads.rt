@@ -156,7 +156,7 @@ fn close_gates<N: Named, R: Wait + Abort>(
 ) -> Closed<MemoryDisk> {
     let (seats, desks) = left_by(rt, alloc, gates);
     let closed = office
-        .close(rt, seats)
+        .close(rt, seats, &desks)
         .ok()
         .expect(rt, "the office wasn't closed");
     assert_silent(rt, desks);

@@ -179,7 +179,7 @@ fn work_side_by_side<N: Named + Send + Sync, R: Threads + Wait + Sync + Abort>(
 ) -> Ended
     requires { IsNameOf N.opened N.name N.parts N.commit_log N.table (opened_of opening) }
 {
-    let (office, seats, _desks) = opening
+    let (office, seats, desks) = opening
         .office::<N, R>(rt, alloc)
         .ok()
         .expect(rt, "no office was made");
@@ -187,7 +187,7 @@ fn work_side_by_side<N: Named + Send + Sync, R: Threads + Wait + Sync + Abort>(
     assert!(rt; !gates.is_empty());
     submit_all(rt, &office, gates.as_mut_slice());
     let closed = office
-        .close(rt, seats_of(rt, alloc, gates))
+        .close(rt, seats_of(rt, alloc, gates), &desks)
         .ok()
         .expect(rt, "the office wasn't closed");
     Ended {
