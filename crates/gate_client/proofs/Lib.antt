@@ -6,3 +6,5 @@ pub mod FrameLemmas
 mod LineExamples
 pub mod AskingLemmas
 pub mod SettlingLemmas
+pub mod TryLemmas
+mod TryExamples

@@ -15,6 +15,7 @@ use Rattle.text_io.specs.Writing.{IsCutShort}
 use Rattle.gate_client.specs.Asking.{IsNumber, spaced}
 use Rattle.gate_client.specs.declared.fault.HearFault.TheVariants.{Refused}
 use Rattle.gate_client.specs.declared.fault.LineFault.{LineFault}
+use Rattle.gate_client.specs.declared.settling.Line.{Line}
 use Rattle.gate_client.specs.declared.attempt.TryFault.{TryFault}
 use Rattle.gate_client.specs.declared.attempt.TryFault.TheVariants.{Unreached, Cut, Unheard}
 use Rattle.gate_client.specs.declared.enquiry.Holding.{Holding}
@@ -54,6 +55,15 @@ pub record HasAnswered (card : ℕ) (holding : Holding) (unread left written aft
     : Type 0 where
   pub sent : Appends written after (enquiry_frame card)
   pub heard : Consumes unread left (holding_frame holding)
+
+-- over one of these lines a fault of this code was read that is of no touch, and nothing else
+pub record IsRefusedOver {R W : Type 0} (remaining : R → Option (List ℕ))
+    (IsOne : Line R W → Type 0) (code : ℕ) : Type 0 where
+  pub begun : Line R W
+  pub left : Line R W
+  pub one : IsOne begun
+  pub read : Consumes (remaining begun.reader) (remaining left.reader)
+      (answer_frame (answers.Fault code 0 0))
 
 -- where a card is, in a word
 abbrev pub state_text : CardState → List ℕ

@@ -7,4 +7,5 @@ pub mod Asking
 pub mod Exchange
 pub mod Told
 pub mod SettleTexts
+pub mod Tries
 pub mod Enquiring

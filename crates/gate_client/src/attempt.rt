@@ -1,10 +1,15 @@
 //! One try of a touch: its frame is written to a line, and one answer is read from it.
-ghost use Rattle.std.specs.Prelude.{◌≡◌, Some, IsSome, IfOk, OnOk, OnErr, Err};
+ghost use Rattle.std.specs.Prelude.{◌≡◌, ℕ, Some, IsSome, IfOk, OnOk, OnErr, Err};
+ghost use Rattle.std.specs.Io.KnownBytes.{Consumes};
 ghost use Rattle.oyster_account.specs.declared.touch.Touch.{Touch};
+ghost use Rattle.gate_session.specs.declared.answer.Answer.TheVariants as answers;
+ghost use Rattle.gate_session.specs.Answers.{answer_frame};
 ghost use Rattle.text_io.specs.Writing.{Wrote};
 ghost use Rattle.gate_client.specs.Client.{waits_of, answered};
-ghost use Rattle.gate_client.specs.declared.attempt.TryFault.TheVariants.{Cut};
+ghost use Rattle.gate_client.specs.declared.attempt.TryFault.TheVariants.{Cut, Unheard};
+ghost use Rattle.gate_client.specs.declared.fault.HearFault.TheVariants.{Refused, Stray};
 ghost use Rattle.gate_client.specs.Exchange.{HasSent, HasSettled, printed_try_fault};
+ghost use Rattle.gate_client.specs.Tries.{HasStrayed};
 
 use crate::{Client, HearFault};
 use oyster_account::Reply;
@@ -59,6 +64,14 @@ pub fn exchange<D: Disk, R: Read, W: Write>(
     // At a fault nothing changes; behind a cut frame nothing is read.
     ensures kept { OnErr result (client.new ≡ client.old) }
     ensures cut { result ≡ Err Cut → reader.new ≡ reader.old }
+
+    // A fault of the station was read as one of this touch, and a stray answer as another's.
+    ensures refused { (t : Touch) (code : ℕ) → waits_of client.old ≡ Some t
+        → result ≡ Err (Unheard (Refused code))
+        → Consumes (R.remaining reader.old) (R.remaining reader.new)
+        (answer_frame (answers.Fault code t.gate t.number)) }
+    ensures stray { (t : Touch) → waits_of client.old ≡ Some t → result ≡ Err (Unheard Stray)
+        → HasStrayed t (R.remaining reader.old) (R.remaining reader.new) }
 {
     let Ok(()) = client.send(writer) else {
         return Err(TryFault::Cut);

@@ -2,14 +2,15 @@
 ghost use Rattle.std.specs.Prelude.{◌≡◌, ◌⊎◌, ℕ, Some, IfOk, IfSome, Err};
 ghost use Rattle.std.specs.Io.KnownBytes.{Consumes};
 ghost use Rattle.gate_session.specs.declared.answer.Answer.TheVariants as answers;
-ghost use Rattle.gate_session.specs.Answers.{answer_frame};
+ghost use Rattle.gate_session.specs.declared.answer.FaultCode.TheVariants as faults;
+ghost use Rattle.gate_session.specs.Answers.{answer_frame, fault_code};
 ghost use Rattle.text_io.specs.Writing.{Wrote};
 ghost use Rattle.gate_client.specs.declared.attempt.TryFault.TheVariants.{Cut, Unheard};
 ghost use Rattle.gate_client.specs.declared.fault.HearFault.TheVariants.{Refused};
-ghost use Rattle.gate_client.specs.declared.enquiry.EnquireFault.TheVariants.{Tries};
+ghost use Rattle.gate_client.specs.declared.enquiry.EnquireFault.TheVariants.{NotAllowed, Tries};
 ghost use Rattle.gate_client.specs.declared.settling.Line.{Line};
 ghost use Rattle.gate_client.specs.Enquiring.{Enquires, HasEnquired, HasAnswered};
-ghost use Rattle.gate_client.specs.Enquiring.{holding_text, state_text};
+ghost use Rattle.gate_client.specs.Enquiring.{holding_text, state_text, IsRefusedOver};
 ghost use Rattle.gate_client.specs.Enquiring.{last_enquiry_fault, printed_enquire_fault};
 
 use crate::HearFault;
@@ -156,6 +157,10 @@ pub fn ask_after<R: Read + Drop, W: Write + Drop, S: Station<R, W>>(
         × HasAnswered card done.0 (R.remaining begun.reader) (R.remaining done.1.reader)
         (W.contents begun.writer) (W.contents done.1.writer)) }
     ensures tries { (n : ℕ) → result ≡ Err (Tries n) → n ≡ tries }
+
+    // That it isn't allowed was read over the line that was handed in, or over one that was made.
+    ensures refused { result ≡ Err NotAllowed → IsRefusedOver R.remaining
+        (λ (begun : Line R W). (line ≡ Some begun) ⊎ S.made begun) (fault_code faults.NotAllowed) }
 {
     let mut ready = line;
     for _ in 0..tries {
@@ -179,9 +184,11 @@ fn enquire_over<R: Read + Drop, W: Write + Drop>(
     card: u32,
     line: Option<Line<R, W>>,
 ) -> Result<(Holding, Line<R, W>), TryFault>
-    ensures { IfOk result (λ done. (begun : Line R W) × (line ≡ Some begun)
+    ensures answered { IfOk result (λ done. (begun : Line R W) × (line ≡ Some begun)
         × HasAnswered card done.0 (R.remaining begun.reader) (R.remaining done.1.reader)
         (W.contents begun.writer) (W.contents done.1.writer)) }
+    ensures refused { (code : ℕ) → result ≡ Err (Unheard (Refused code))
+        → IsRefusedOver R.remaining (λ (begun : Line R W). line ≡ Some begun) code }
 {
     let Some(mut line) = line else {
         return Err(TryFault::Unreached);

@@ -1,6 +1,6 @@
 //! The settling of the touch that waits: the same bytes over one line after the other, until its
 //! reply is there.
-ghost use Rattle.std.specs.Prelude.{◌≡◌, ◌⊎◌, ◌↔◌, IsTrue, Some, IsSome, IfSome, IfOk, OnOk};
+ghost use Rattle.std.specs.Prelude.{◌≡◌, ◌⊎◌, ◌↔◌, IsTrue, List, Some, IsSome, IfSome, IfOk, OnOk};
 ghost use Rattle.std.specs.Prelude.{OnErr};
 ghost use Rattle.oyster_account.specs.declared.touch.Touch.{Touch};
 ghost use Rattle.gate_client.specs.Client.{waits_of, answered};
@@ -8,6 +8,7 @@ ghost use Rattle.gate_client.specs.declared.settling.Line.{Line};
 ghost use Rattle.gate_client.specs.Exchange.{HasSettled};
 ghost use Rattle.gate_client.specs.SettleTexts.{printed_settle_fault, last_answer, last_fault};
 ghost use Rattle.gate_client.specs.SettleTexts.{IsAnswer};
+ghost use Rattle.gate_client.specs.Tries.{Try, IsTaken, IsTriedOver, AreTries};
 
 use crate::attempt::{TryFault, exchange};
 use crate::{Client, HearFault};
@@ -105,6 +106,11 @@ pub fn settle<D: Disk, R: Read + Drop, W: Write + Drop, S: Station<R, W>>(
         (W.contents begun.writer) (W.contents done.1.writer)) }
     ensures answered { OnOk result (client.new ≡ answered client.old) }
     ensures kept { OnErr result (client.new ≡ client.old) }
+
+    // It comes of tries over one line after the other: so a fault of the station that ends it was
+    // read as the answer to this touch, over the line of the last.
+    ensures tries { (t : Touch) → waits_of client.old ≡ Some t → (tried : List (Try R W))
+        × AreTries R.remaining W.contents S.made t tries line tried result }
 {
     let mut ready = line;
     for _ in 0..tries {
@@ -128,7 +134,7 @@ pub(crate) fn line_for<R, W, S: Station<R, W>>(
     station: &mut S,
     ready: Option<Line<R, W>>,
 ) -> Option<Line<R, W>>
-    ensures { IfSome result (λ begun. (ready ≡ Some begun) ⊎ S.made begun) }
+    ensures { IsTaken S.made ready result }
 {
     match ready {
         Some(line) => Some(line),
@@ -148,6 +154,8 @@ fn try_over<D: Disk, R: Read + Drop, W: Write + Drop>(
         (W.contents begun.writer) (W.contents done.1.writer)) }
     ensures answered { OnOk result (client.new ≡ answered client.old) }
     ensures kept { OnErr result (client.new ≡ client.old) }
+    ensures tried { (t : Touch) → waits_of client.old ≡ Some t
+        → IsTriedOver R.remaining W.contents t line result }
 {
     let Some(mut line) = line else {
         return Err(TryFault::Unreached);
