@@ -37,3 +37,6 @@ pub mod ClientLemmas
 pub mod ClientRunLemmas
 pub mod AskingRunLemmas
 pub mod AtOnceLemmas
+pub mod TryAmongLemmas
+pub mod AmongLemmas
+mod AmongExamples

@@ -19,3 +19,4 @@ pub mod Sessions
 pub mod Settled
 pub mod Shown
 pub mod ClientRuns
+pub mod Among

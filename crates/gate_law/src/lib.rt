@@ -7,6 +7,7 @@
 //! gate's file.
 #![tactic(auto)]
 
+mod among;
 mod at_once;
 mod book_clerk;
 mod client_steps;
@@ -15,6 +16,7 @@ mod laws_of_all;
 mod laws_of_calls;
 mod round;
 
+pub use among::{exchange_among_others, settle_among_others};
 pub use at_once::settle_at_once;
 pub use book_clerk::BookClerk;
 pub use client_steps::{
