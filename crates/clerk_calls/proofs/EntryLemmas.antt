@@ -5,6 +5,8 @@ use Rattle.std.specs.Prelude.{slice_get}
 use mathlib.Core.List.{IsPrefix}
 use Rattle.reply_book.specs.declared.entry.Entry.{Entry}
 use Rattle.reply_book.proofs.PlaceLemmas.{take-front}
+use Rattle.tap_desk.specs.Listed.{BeginsWith}
+use Rattle.clerk_calls.specs.Logged.{HasLearnt}
 
 -- the entries before a place and that one are the entries before the next
 pub take-next : (entries : List Entry) (n : ℕ) (entry : Entry) → slice_get entries n ≡ Some entry
@@ -32,3 +34,15 @@ front-of point entries begins = (
     longer : (xs ys : List Entry) → length xs ≤ length (xs ++ ys)
     longer [] ys = omega arith
     longer (x ∷ xs) ys = let rest = longer xs ys in omega arith
+
+-- what begins with more points begins with the earlier ones
+pub begins-earlier : (newer earlier : List (List Entry)) (entries : List Entry) → BeginsWith (newer ++ earlier) entries
+    → BeginsWith earlier entries
+begins-earlier [] earlier entries begins = begins
+begins-earlier (point ∷ newer) earlier entries begins = begins-earlier newer earlier entries begins.1
+
+pub begins-before : (before after : List (List Entry)) (entries : List Entry) → HasLearnt before after
+    → BeginsWith after entries → BeginsWith before entries
+begins-before before after entries learnt begins =
+    begins-earlier learnt.0 before entries
+    (subst (λ (l : List (List Entry)). BeginsWith l entries) learnt.1 begins)

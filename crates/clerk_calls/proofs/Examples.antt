@@ -1,55 +1,67 @@
 -- Worked examples, computed by the definitions: a log of two entries, of which another gate's is the first, a session
--- that is answered from it, and what isn't a log, a place in it, or an answer from it. No table of fares decides the
--- replies: a first issue of a card is accepted (FARES.md, "Verdicts").
-use Rattle.std.proofs.Common.{◌≡◌, inl, inr, ℕ, zero, suc, pos, true, false, List, [], ◌∷◌, get_or, length, refl, sym}
-use Rattle.std.proofs.Common.{ap, arith, Some, subst, rules}
+-- that is answered from it, and what isn't a log, a place in it, an answer from it, or a turn by it (OrderExamples has
+-- turns). No table of fares decides the replies: a first issue of a card is accepted (FARES.md, "Verdicts").
+use Rattle.std.proofs.Common.{◌≡◌, inl, inr, ℕ, zero, suc, pos, true, false, List, [], ◌∷◌, ◌++◌, get_or, length}
+use Rattle.std.proofs.Common.{refl, sym, ap, ◌∙◌, arith, Some, subst, rules}
 use Rattle.std.specs.Prelude.{Contains, slice_get}
 use Rattle.oyster_account.specs.declared.touch.Act.TheVariants.{Issue}
 use Rattle.oyster_account.specs.declared.touch.Touch.{Touch}
 use Rattle.oyster_account.specs.declared.reply.Reply.{Reply}
 use Rattle.reply_book.specs.declared.entry.Entry.{Entry}
+use Rattle.reply_book.specs.declared.entry.Found.TheVariants as finds
 use Rattle.reply_book.specs.Lookup.{found, is_same_touch}
 use Rattle.reply_book.specs.Tables.{Tables}
+use Rattle.reply_book.specs.Legal.{IsLegal, history_of}
 use Rattle.reply_book.proofs.LegalLemmas.{legal-none, legal-add}
 use Rattle.gate_session.specs.declared.request.Request.{Request}
 use Rattle.gate_session.specs.declared.request.Request.TheVariants as requests
 use Rattle.gate_session.specs.declared.answer.Answer.{Answer}
 use Rattle.gate_session.specs.declared.answer.Answer.TheVariants as answers
+use Rattle.gate_session.specs.declared.answer.FaultCode.TheVariants as codes
 use Rattle.gate_session.specs.Answers.{AnswerFits, ReplyFits}
 use Rattle.gate_session.specs.Session.{Exchange}
 use Rattle.gate_law.specs.Joint.{Joint}
 use Rattle.gate_law.specs.Premises.{Line}
-use Rattle.gate_law.proofs.ListLemmas.{contained, placed}
+use Rattle.gate_law.proofs.ListLemmas.{contained, contains-none, placed}
 use Rattle.gate_law.specs.Sessions.{WereSent}
+use Rattle.gate_law.specs.Whole.{Station, Whole}
 use Rattle.tap_desk.specs.Listed.{BeginsWith}
+use Rattle.tap_office.specs.declared.fault.SubmitFault.{SubmitFault}
+use Rattle.tap_office.specs.declared.fault.SubmitFault.TheVariants as faults
+use Rattle.tap_office.specs.Name.{nothing_opened}
+use Rattle.tap_office.specs.Refusal.{IsCauseAfter}
+use Rattle.clerk_calls.specs.Turns.{Said, replies, refuses, enters, says, office_at, IsTurn, AreTurns}
+use Rattle.clerk_calls.specs.Schedules.{IsPause, WasSent}
+use Rattle.clerk_calls.specs.Merged.{IsMerge, AreMerged}
+use Rattle.clerk_calls.specs.Answered.{code_of, newest, IsRefusedIn, AreAnswered, IsSaidTo, DoesGrow}
 use Rattle.clerk_calls.specs.Logged.{Log, DoesFromLog, KeepsLog, IsLogOf, IsLoggedIn, IsBehind}
 use Rattle.clerk_calls.proofs.LogLemmas.{Leads, serves-all}
 
 -- an issue of a card, at the moment 1736150400
-abbrev issue : ℕ → ℕ → ℕ → Touch
+abbrev pub issue : ℕ → ℕ → ℕ → Touch
 issue gate number card = record { gate = gate; number = number; card = card; act = Issue 1_736_150_400 }
 
 -- issued, and refused since it was; a card that was issued has nothing on it
-abbrev issued : Reply
+abbrev pub issued : Reply
 issued = record { verdict = 8; change = pos 0; balance = pos 0 }
 
-abbrev issued_before : Reply
+abbrev pub issued_before : Reply
 issued_before = record { verdict = 21; change = pos 0; balance = pos 0 }
 
 -- gate 9 issues card 2 at seat 2, and then gate 7 card 1 at seat 1
-abbrev strange : Touch
+abbrev pub strange : Touch
 strange = issue 9 1 2
 
-abbrev own : Touch
+abbrev pub own : Touch
 own = issue 7 1 1
 
-abbrev entry : Touch → Reply → ℕ → Entry
+abbrev pub entry : Touch → Reply → ℕ → Entry
 entry touch reply seat = record { touch = touch; reply = reply; seat = seat }
 
-abbrev entries : List Entry
+abbrev pub entries : List Entry
 entries = entry strange issued 2 ∷ entry own issued 1 ∷ []
 
-abbrev answer : Touch → Reply → Answer
+abbrev pub answer : Touch → Reply → Answer
 answer touch reply = answers.Reply touch.gate touch.number reply
 
 -- a clerk's log points, newest first, and how many entries it has seen
@@ -99,12 +111,12 @@ fits : ReplyFits issued
 fits = record { verdict = omega arith; change = search rules; balance = search rules }
 
 -- what the definitions open to, on literals
-unfoldable on_literals : Unit {0}
+unfoldable pub on_literals : Unit {0}
 unfolding found is_same_touch
 on_literals = tt
 
 module _ (tables : Tables) where
-  abbrev log : Log
+  abbrev pub log : Log
   log = record { tables = tables; cards = 10; entries = entries }
 
   -- gate 7 and another gate have sent a touch each, and the station has entered none
@@ -119,14 +131,14 @@ module _ (tables : Tables) where
     told = [];
   }
 
-  the_log : IsLogOf log told.points
+  pub legal : IsLegal tables 10 (history_of entries)
   unfolding on_literals
-  the_log = record {
-    legal =
-        legal-add tables 10 (entry strange issued 2 ∷ []) (entry own issued 1) refl refl
-        (legal-add tables 10 [] (entry strange issued 2) refl refl (legal-none tables 10));
-    begins = (([], refl), tt);
-  }
+  legal =
+      legal-add tables 10 (entry strange issued 2 ∷ []) (entry own issued 1) refl refl
+      (legal-add tables 10 [] (entry strange issued 2) refl refl (legal-none tables 10))
+
+  the_log : IsLogOf log told.points
+  the_log = record { legal = legal; begins = (([], refl), tt) }
 
   were : (place : ℕ) (e : Entry) → slice_get entries place ≡ Some e → Line sent.sent e.touch
   were zero e at =
@@ -239,3 +251,98 @@ module _ (tables : Tables) where
           let is : own ≡ strange = cc in
           omega (arith, ap (λ (t : Touch). t.gate) is)
       by_place (suc i, at) = absurd cc
+
+-- ---- what is no turn, and no order of turns
+
+-- the log's first entry
+abbrev pub front : List Entry
+front = entry strange issued 2 ∷ []
+
+-- gate 7 asks once more, and is given its reply again
+abbrev pub twice : List Said
+twice = replies own issued ∷ replies own issued ∷ []
+
+module _ (tables : Tables) where
+  -- an entry is entered at its place
+  no_entry_too_early : IsTurn (log tables) 10 0 (enters (entry own issued 1)) → ⊥
+  no_entry_too_early at =
+      let is : entry strange issued 2 ≡ entry own issued 1 = cc in omega (arith, ap (λ (e : Entry). e.touch.gate) is)
+
+  -- no reply comes before its touch is entered
+  no_reply_before_its_entry : IsTurn (log tables) 10 1 (says (replies own issued)) → ⊥
+  no_reply_before_its_entry is = by_place is.place is.seat is.stands
+    where
+      by_place : (place seat : ℕ) → slice_get front place ≡ Some (entry own issued seat) → ⊥
+      by_place zero seat at =
+          let is : entry strange issued 2 ≡ entry own issued seat = cc in
+          omega (arith, ap (λ (e : Entry). e.touch.gate) is)
+      by_place (suc place) seat at = absurd cc
+
+  -- no touch that stands is refused as a conflict
+  no_refusal_for_nothing : IsTurn (log tables) 10 2 (says (refuses own codes.Conflict)) → ⊥
+  unfolding on_literals
+  no_refusal_for_nothing is = let no : finds.First 1 issued ≡ finds.Conflict = is in absurd cc
+
+  -- an order goes on to the log's end
+  no_end_before_the_last : AreTurns (log tables) 10 1 [] → ⊥
+  no_end_before_the_last end = omega (arith, end)
+
+  -- what nobody sent isn't entered
+  no_unsent_turn : WasSent [] (enters (entry own issued 1)) → ⊥
+  no_unsent_turn there = contains-none {X = Touch} [] own refl there
+
+  -- a station with this log's first entries
+  abbrev whole_at : ℕ → Whole
+  whole_at count = record {
+    gates = λ number. record { file = []; going = true; waits = false; told = []; refused = [] };
+    sent = strange ∷ [];
+    station = office_at (log tables) 10 count;
+    answers = [];
+  }
+
+  -- nothing is entered in a pause
+  no_pause_with_an_entry : IsPause (λ number. true) 10 (whole_at 0) (whole_at 1) → ⊥
+  no_pause_with_an_entry is = let no = ap (λ (s : Station). s.history) is.station in absurd cc
+
+-- what one list has is in the order of all
+no_lost_answer : AreMerged (twice ∷ []) (replies own issued ∷ []) → ⊥
+no_lost_answer all = by_first all.0 all.2
+  where
+    by_first : (rest : List Said) → IsMerge twice rest (replies own issued ∷ []) → ⊥
+    by_first rest (inl (later, is, last)) =
+        let more : later ≡ replies own issued ∷ [] = cc in
+        let no : replies own issued ∷ [] ≡ [] = sym more ∙ last.0 in
+        absurd cc
+    by_first rest (inr (later, is, last)) = let no : twice ≡ [] = last.0 in absurd cc
+
+-- a desk answers by the newest log point that it has, and not by one that it hasn't learnt
+no_unlearnt_point : AreAnswered nothing_opened [] (record { said = replies own issued; point = entries } ∷ [])
+    (front ∷ []) → ⊥
+no_unlearnt_point is = by_newer is.4.0 is.0 is.4.1 is.2
+  where
+    by_newer : (newer mid : List (List Entry)) → front ∷ [] ≡ newer ++ mid → entries ≡ newest mid → ⊥
+    by_newer [] mid learnt point = let no : entries ≡ front = point ∙ ap newest (sym learnt) in absurd cc
+    by_newer (p ∷ newer) [] learnt point = absurd cc
+    by_newer (p ∷ []) (q ∷ mid) learnt point = absurd cc
+    by_newer (p ∷ n ∷ newer) (q ∷ mid) learnt point = absurd cc
+
+-- where there is no entry, no touch is refused as a conflict
+no_refusal_without_cause : IsRefusedIn nothing_opened [] own codes.Conflict → ⊥
+unfolding on_literals
+no_refusal_without_cause is = by_fault is.office is.cause is.is
+  where
+    by_fault : (fault : SubmitFault) → IsCauseAfter nothing_opened [] own fault → codes.Conflict ≡ code_of fault → ⊥
+    by_fault faults.Conflict cause same = let no : finds.New ≡ finds.Conflict = cause in absurd cc
+    by_fault faults.Halted cause same = absurd cc
+    by_fault faults.Memory cause same = absurd cc
+    by_fault faults.Full cause same = absurd cc
+    by_fault faults.UnknownTable cause same = absurd cc
+
+-- a touch isn't refused in place of another one
+no_refusal_of_another : IsSaidTo (requests.Touch own) (refuses strange codes.Conflict) → ⊥
+no_refusal_of_another same = omega (arith, ap (λ (t : Touch). t.gate) same)
+
+-- the history doesn't shrink from one answer to the next
+no_shrinking_order : DoesGrow 0 (record { said = replies own issued; point = entries }
+    ∷ record { said = replies strange issued; point = front } ∷ []) → ⊥
+no_shrinking_order is = omega (arith, is.1.0)

@@ -31,7 +31,7 @@ use Rattle.gate_law.specs.Sessions.{WereSent, served_in}
 use Rattle.gate_law.proofs.StationLemmas.{Serves, stays, then, tells, answered, unanswered}
 use Rattle.gate_law.proofs.SessionLemmas.{IsWhole, ways, session-written}
 use Rattle.gate_law.proofs.OpeningLemmas.{lock-last, new-last}
-use Rattle.clerk_calls.proofs.EntryLemmas.{take-next, stands-below, front-of}
+use Rattle.clerk_calls.proofs.EntryLemmas.{take-next, stands-below, front-of, begins-before}
 use Rattle.clerk_calls.specs.Logged.{Log, station_at, IsFromPoint, IsBeside, DoesFromLog, KeepsLog}
 use Rattle.clerk_calls.specs.Logged.{IsBehind, IsServedFromLog}
 
@@ -39,7 +39,7 @@ module _ (log : Log) (legal : IsLegal log.tables log.cards (history_of log.entri
   abbrev entries : List Entry
   entries = log.entries
 
-  legal-at : (n : ℕ) → IsLegal log.tables log.cards (history_of (take n entries))
+  pub legal-at : (n : ℕ) → IsLegal log.tables log.cards (history_of (take n entries))
   legal-at n =
       subst (IsLegal log.tables log.cards) (sym (history_of-take n entries))
       (legal-take log.tables log.cards (history_of entries) n legal)
@@ -90,7 +90,7 @@ module _ (log : Log) (legal : IsLegal log.tables log.cards (history_of log.entri
       (grows s n (m - n) (omega (arith, count)) shows sent)
 
   -- what stands in a point is found there
-  found-in : (n place : ℕ) (touch : Touch) (reply : Reply) (seat : ℕ)
+  pub found-in : (n place : ℕ) (touch : Touch) (reply : Reply) (seat : ℕ)
       → slice_get (take n entries) place ≡ Some (record { touch = touch; reply = reply; seat = seat })
       → find_in (take n entries) touch ≡ First place reply
   found-in n place touch reply seat at =
@@ -137,9 +137,9 @@ module _ {C : Type 0} (gives : C → Request → Answer → C → Type 0) (point
   before-one old new (requests.Touch touch) answer (inl is) begins =
       (subst (λ (l : List (List Entry)). BeginsWith l log.entries) is.learnt begins).1
   before-one old new (requests.Touch touch) answer (inr is) begins =
-      subst (λ (l : List (List Entry)). BeginsWith l log.entries) is.points_are begins
+      begins-before (points old) (points new) log.entries is.learnt begins
   before-one old new (requests.Enquire card) answer is begins =
-      subst (λ (l : List (List Entry)). BeginsWith l log.entries) is.points_are begins
+      begins-before (points old) (points new) log.entries is.learnt begins
 
   before-all : (old new : C) (handed : List Request) (replies : List Answer)
       → IsClerksRun gives old handed replies new → BeginsWith (points new) log.entries

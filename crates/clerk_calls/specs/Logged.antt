@@ -1,7 +1,8 @@
 -- A clerk that answers from a log to which others add entries too, and its sessions as runs of the
 -- steps of gate_law (OFFICE.md, "Seats and receipts"; PROOFS.md, "A gate and its
 -- station").
-use Rattle.std.specs.Prelude.{◌≡◌, ◌⊎◌, ℕ, ◌≤◌, false, List, ◌∷◌, take, length, Some, slice_get}
+use Rattle.std.specs.Prelude.{◌≡◌, ◌⊎◌, ℕ, ◌≤◌, false, List, ◌∷◌, ◌++◌, take, length, Some}
+use Rattle.std.specs.Prelude.{slice_get}
 use Rattle.oyster_account.specs.declared.touch.Touch.{Touch}
 use Rattle.oyster_account.specs.declared.reply.Reply.{Reply}
 use Rattle.reply_book.specs.declared.entry.Entry.{Entry}
@@ -37,6 +38,10 @@ station_at log count = record {
   history = take count log.entries;
 }
 
+-- a desk with the first of these log points has learnt more, or none, and has the second then
+abbrev pub HasLearnt : List (List Entry) → List (List Entry) → Type 0
+HasLearnt before after = (newer : List (List Entry)) × (after ≡ newer ++ before)
+
 module _ {C : Type 0} (points : C → List (List Entry)) (seen : C → ℕ) (found : ℕ) where
   -- a touch is answered by the reply that stands beside it in a log point: the clerk learns that
   -- point, and has seen as many entries as it has, not fewer than before, nor than were found at
@@ -54,10 +59,10 @@ module _ {C : Type 0} (points : C → List (List Entry)) (seen : C → ℕ) (fou
     pub learnt : points new ≡ point ∷ points old
     pub is : answer ≡ answers.Reply touch.gate touch.number reply
 
-  -- what is answered is no reply, and no log point is learnt
+  -- what is answered is no reply; a log point may be learnt, by which it was refused
   pub record IsBeside (old new : C) (answer : Answer) : Type 0 where
     pub none : is_reply answer ≡ false
-    pub points_are : points new ≡ points old
+    pub learnt : HasLearnt (points old) (points new)
     pub seen_is : seen new ≡ seen old
 
   -- what a clerk of a log does of a request

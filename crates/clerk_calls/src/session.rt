@@ -4,6 +4,7 @@ ghost use Rattle.gate_session.specs.Session.{HasCounted, IsInputAt, IsSession};
 ghost use Rattle.text_io.specs.Writing.{Ran};
 ghost use Rattle.clerk_calls.specs.Logged.{IsServedFromLog};
 ghost use Rattle.clerk_calls.specs.Listed.{IsServedFromList};
+ghost use Rattle.clerk_calls.specs.Answered.{HasSaid};
 
 use gate_session::{Clerk, Served, serve};
 use office_lines::{OfficeClerk, Watch};
@@ -19,7 +20,12 @@ use tap_office::Named;
 /// the log as it is then, whatever other sessions do meanwhile.
 ///
 /// The log is any legal one that begins with every log point that the desk learnt. That its touches
-/// were sent is the premise Line. A fault may come at any time here: its cause isn't said.
+/// were sent is the premise Line.
+///
+/// What was written was said at the desk (`HasSaid`), to the requests that were handed over, in
+/// their order: a reply stands beside its touch, and a touch is refused for its cause, in the
+/// newest log point that the desk had then. So the sessions of all desks have one order
+/// (`close_over_sessions`).
 pub fn serve_from_log<'a, R: Read, W: Write, N: Named, D: Disk, T: Watch, H: Wait>(
     rt: &H,
     alloc: Global,
@@ -33,7 +39,9 @@ pub fn serve_from_log<'a, R: Read, W: Write, N: Named, D: Disk, T: Watch, H: Wai
         (λ bytes text. (is : IsSession ⟦<OfficeClerk<'a, N, D, T> as Clerk>⟧.gives clerk.old
         clerk.new turns result bytes text)
         × IsServedFromLog (length N.opened.recovered) clerk.old.seat.now.seen
-        clerk.new.desk.now.points is.exchange.handed is.exchange.sent bytes text) }
+        clerk.new.desk.now.points is.exchange.handed is.exchange.sent bytes text
+        × HasSaid N.opened clerk.old.desk.now.points clerk.new.desk.now.points
+        is.exchange.handed is.exchange.sent) }
     ensures input { IsInputAt result.end (R.remaining reader.new) }
     ensures counts { HasCounted result.end result.requests result.answers }
 {
