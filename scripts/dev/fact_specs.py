@@ -11,6 +11,8 @@ COMMENT = re.compile(r"^--.*\n", re.M)
 SIGNED = re.compile(r"\(cast_unsigned w\d+ ([\w.]+)\)")
 # A refusal of a chain: what has to hold for it, and its name.
 REFUSE = re.compile(r"refuse (\((?:[^()]|\([^()]*\))*\)|\w+) (\w+)")
+# A variant in the pattern of an equation, with arguments or without.
+VARIANT = re.compile(r"(?:^|[ (])(?:\w+\.)?([A-Z]\w*)")
 
 
 @dataclasses.dataclass(frozen=True)
@@ -30,7 +32,7 @@ class Equation:
 
     def is_for(self, variant: str) -> bool:
         """Whether it holds for this variant of a type: its pattern names it, or none at all."""
-        named = re.findall(r"\((?:\w+\.)?([A-Z]\w*)", self.pattern)
+        named = VARIANT.findall(self.pattern)
         return not named or variant in named
 
     def names(self) -> set[str]:
@@ -61,7 +63,7 @@ class Definitions:
 
     def variants(self, name: str) -> list[str]:
         """The variants for which a definition has an equation each."""
-        return [re.findall(r"\((?:\w+\.)?([A-Z]\w*)", one.pattern)[0] for one in self.equations.get(name, [])]
+        return [VARIANT.findall(one.pattern)[0] for one in self.equations.get(name, [])]
 
     def fields(self, value: str, variant: str) -> list[Field]:
         """The fields that a list of bytes has, but for the byte of the kind."""
@@ -72,7 +74,7 @@ class Definitions:
             name = term.split()[-1].lstrip("-").split(".")[-1]
             if head == "to_be_bytes":
                 found.append(Field(name, int(rest[0][1:]) // 8, rest[-1].startswith("-")))
-            elif head.startswith("KIND_") or head == "kind_of":
+            elif head.startswith("KIND_") or head in ("kind_of", "[]"):
                 continue
             elif joint == "∷":
                 found.append(Field(name, 1))
