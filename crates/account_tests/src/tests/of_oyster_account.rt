@@ -1,7 +1,7 @@
 //! What no clause says: worked examples of the account and of the touch's bytes, with the values of
 //! FARES.md and PROTOCOL.md, and the comparison with a plain account.
 
-ghost use Rattle.std.specs.Prelude.{◌≡◌, ◌<◌, ◌+◌, List, length, IsTrue, OnOk};
+ghost use Rattle.std.specs.Prelude.{◌≡◌, ◌<◌, ◌+◌, List, length, OnOk};
 ghost use Rattle.oyster_account.specs.declared.reply.Judged.{Judged};
 ghost use Rattle.oyster_account.specs.Scheme.{scheme_of};
 ghost use Rattle.oyster_account.specs.Standing.{StandsFor, touches_in};
@@ -13,22 +13,32 @@ mod revised;
 mod wanderer;
 mod wide;
 
+use self::Deed::{In, Issued, Out, TopUp};
 use self::plain::{Answer, Plain};
 use self::wanderer::Wanderer;
 use self::wide::WIDE_TABLE;
+use super::tables::{Change, revised, schedule_of};
+use super::{assert_same, assert_same_at, assert_that};
 use fare_schedule::Schedule;
-use fare_table::Fares;
 use oyster_account::{
     Acceptance, Act, Card, CardState, Judged, Refusal, Reply, Touch, verdict_name,
 };
 use std::alloc::{AllocError, Global};
-use std::fmt::Debug;
 use std::process::Abort;
 use std::test::Fail;
 
-/// An act of the card, the verdict, change and balance that it is to be answered with, and the
-/// state that the card is to have then.
-type Step = (Act, u8, i64, i64, CardState);
+/// What a card does, in a word: at a station or with these pence, and at a moment.
+#[derive(Clone, Copy, Debug)]
+enum Deed {
+    Issued(u32),
+    TopUp(u32, u32),
+    In(u16, u32),
+    Out(u16, u32),
+}
+
+/// What a card does, the verdict, change and balance that it is to be answered with, and the state
+/// that the card is to have then.
+type Step = (Deed, u8, i64, i64, CardState);
 
 const VACANT: CardState = CardState::Vacant;
 
@@ -36,70 +46,22 @@ const OUTSIDE: CardState = CardState::Outside;
 
 const INSIDE: CardState = CardState::Inside;
 
-const ISSUE: Act = Act::Issue {
-    moment: 1_736_149_800,
-};
-
-const TOP_UP_2000: Act = Act::TopUp {
-    pence: 2000,
-    moment: 1_736_150_100,
-};
+const ISSUE: Deed = Issued(1_736_149_800);
 
 /// A card with 2000 pence.
 const WITH_2000: [Step; 2] = [
     (ISSUE, 8, 0, 0, OUTSIDE),
-    (TOP_UP_2000, 7, 2000, 2000, OUTSIDE),
+    (TopUp(2000, 1_736_150_100), 7, 2000, 2000, OUTSIDE),
 ];
 
-/// These are equal.
-fn assert_same<T: PartialEq + Debug + Copy>(rt: &impl Abort, found: T, want: T) {
-    assert_eq!(rt; found, want);
-}
-
-/// These are equal, in this case.
-fn assert_same_at<T: PartialEq + Debug + Copy, C: Debug + Copy>(
-    rt: &impl Abort,
-    found: T,
-    want: T,
-    at: C,
-) {
-    assert_eq!(rt; found, want, "{at:?}");
-}
-
-/// This holds.
-fn assert_that(rt: &impl Abort, holds: bool)
-    ensures { IsTrue holds }
-{
-    assert!(rt; holds);
-}
-
-const fn enter(station: u16, moment: u32) -> Act {
-    Act::Enter { station, moment }
-}
-
-const fn leave(station: u16, moment: u32) -> Act {
-    Act::Leave { station, moment }
-}
-
-/// A revision to the table of a digest from a fare day on.
-const fn revise(day: i32) -> Act {
-    Act::Revise {
-        digest: [
-            0x96, 0xcc, 0x50, 0xb0, 0x39, 0x6b, 0x0e, 0x93, 0x39, 0x71, 0xad, 0x24, 0x64, 0xa5,
-            0x08, 0xf6, 0x30, 0xc6, 0x46, 0x3f, 0x90, 0xc3, 0x22, 0xda, 0x83, 0x93, 0xbc, 0xc1,
-            0xa5, 0x46, 0xa9, 0xbe,
-        ],
-        day,
-        moment: 1_736_150_400,
+/// The act of what a card does.
+fn act_of(deed: Deed) -> Act {
+    match deed {
+        Issued(moment) => Act::Issue { moment },
+        TopUp(pence, moment) => Act::TopUp { pence, moment },
+        In(station, moment) => Act::Enter { station, moment },
+        Out(station, moment) => Act::Leave { station, moment },
     }
-}
-
-const fn top_up(pence: u32) -> Act {
-    top_up_at(pence, 1_736_150_100)
-}
-
-const fn top_up_at(pence: u32, moment: u32) -> Act {
-    Act::TopUp { pence, moment }
 }
 
 /// Gives an act to a card of number 1, and to the plain account of it. What is foretold is what is
@@ -161,15 +123,15 @@ fn go_on(
         × StandsFor (scheme_of schedule.now) 1 history card.new) }
 {
     for step in steps {
-        let (act, verdict, change, balance, state) = *step;
-        let answer = give(rt, schedule, card, plain, act)?;
+        let (deed, verdict, change, balance, state) = *step;
+        let answer = give(rt, schedule, card, plain, act_of(deed))?;
         let expected = Answer {
             verdict,
             change,
             balance,
             state,
         };
-        assert_same_at(rt, answer, expected, act);
+        assert_same_at(rt, answer, expected, deed);
     }
     Ok(())
 }
@@ -193,20 +155,8 @@ fn play_row(
     Ok(())
 }
 
-/// Plays each row on a card of its own, after the same first steps, by one table.
-fn play(
-    rt: &impl Abort,
-    alloc: Global,
-    table: &str,
-    first: &[Step],
-    rows: &[&[Step]],
-) -> Result<(), Fail> {
-    let schedule = Schedule::new(alloc, Fares::read(alloc, table)?)?;
-    play_on(rt, alloc, &schedule, first, rows)
-}
-
 /// Plays each row on a card of its own, after the same first steps, by a schedule.
-fn play_on(
+fn play(
     rt: &impl Abort,
     alloc: Global,
     schedule: &Schedule,
@@ -256,7 +206,7 @@ fn wander_on(
 #[test]
 fn a_card_answers_as_a_plain_account_does(rt: HostRuntime) -> Result<(), Fail> {
     let alloc = rt.alloc();
-    let schedule = Schedule::new(alloc, Fares::read(alloc, WIDE_TABLE)?)?;
+    let schedule = schedule_of(&rt, alloc, WIDE_TABLE);
     let mut wanderer = Wanderer::new();
     wander_on(&rt, alloc, &schedule, &mut wanderer)?;
     // Every verdict was given but that of a table with no such card.
@@ -266,16 +216,18 @@ fn a_card_answers_as_a_plain_account_does(rt: HostRuntime) -> Result<(), Fail> {
     Ok(())
 }
 
+// On Sunday 2025-10-26 the clock shows 04:50, then 04:10 of the fare day before, then 04:35.
+const GOES_BACK: [Step; 4] = [
+    (In(1, 1_761_450_600), 1, -900, 1100, INSIDE),
+    (Out(2, 1_761_451_800), 23, 0, 1100, INSIDE),
+    (In(2, 1_761_451_800), 23, 0, 1100, INSIDE),
+    (Out(2, 1_761_453_300), 4, 610, 1710, OUTSIDE),
+];
+
 #[test]
 fn a_clock_that_goes_back_makes_an_earlier_fare_day(rt: HostRuntime) -> Result<(), Fail> {
-    // On Sunday 2025-10-26 the clock shows 04:50, then 04:10 of the fare day before, then 04:35.
-    let row = [
-        (enter(1, 1_761_450_600), 1, -900, 1100, INSIDE),
-        (leave(2, 1_761_451_800), 23, 0, 1100, INSIDE),
-        (enter(2, 1_761_451_800), 23, 0, 1100, INSIDE),
-        (leave(2, 1_761_453_300), 4, 610, 1710, OUTSIDE),
-    ];
-    play(&rt, rt.alloc(), WIDE_TABLE, &WITH_2000, &[&row])
+    let schedule = schedule_of(&rt, rt.alloc(), WIDE_TABLE);
+    play(&rt, rt.alloc(), &schedule, &WITH_2000, &[&GOES_BACK])
 }
 
 #[test]

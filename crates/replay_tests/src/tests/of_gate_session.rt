@@ -4,32 +4,22 @@ mod fakes;
 mod sessions;
 mod vectors;
 
+use super::{assert_same, assert_same_at};
 use gate_session::{Answer, FaultCode, Feed, FirstFrame, Request, Step, first_frame};
 use oyster_account::{CardState, CardView, Reply};
 use std::alloc::{AllocError, Global};
-use std::fmt::Debug;
 use std::process::Abort;
 use std::test::Fail;
-use vectors::{ANSWERS, BAD_FRAME, FRAMES, REVISION, requests, revision};
+use vectors::{ANSWERS, BAD_FRAME, FRAMES, requests};
 
 /// The reply to touch number 5 of gate 7: in, change -900, balance -710.
 const BELOW_ZERO: &[u8] =
     b"\x00\x14\x81\x00\x07\x00\x00\x00\x05\x01\xff\xff\xfc\x7c\xff\xff\xff\xff\xff\xff\xfd\x3a";
 
-/// These are equal.
-fn assert_same<T: PartialEq + Debug + Copy>(rt: &impl Abort, found: T, want: T) {
-    assert_eq!(rt; found, want);
-}
+/// What is told after four entries of a card that wasn't issued, and of one inside with 1100 pence.
+const VACANT: &[u8] = b"\x00\x0e\x85\x00\x00\x00\x00\x00\x00\x00\x00\x00\x00\x00\x00\x04";
 
-/// These are equal in this case.
-fn assert_same_at<T: PartialEq + Debug + Copy, C: Debug + Copy>(
-    rt: &impl Abort,
-    found: T,
-    want: T,
-    case: C,
-) {
-    assert_eq!(rt; found, want, "{case:?}");
-}
+const INSIDE: &[u8] = b"\x00\x0e\x85\x02\x00\x00\x00\x00\x00\x00\x04\x4c\x00\x00\x00\x04";
 
 /// These bytes, one behind the other.
 fn joined(alloc: Global, parts: &[&[u8]]) -> Result<Vec<u8>, AllocError> {
@@ -38,13 +28,6 @@ fn joined(alloc: Global, parts: &[&[u8]]) -> Result<Vec<u8>, AllocError> {
         bytes.extend_from_slice(part)?;
     }
     Ok(bytes)
-}
-
-/// What a fresh feed says of these bytes.
-fn step_of(rt: &HostRuntime, bytes: &[u8]) -> Result<Step, AllocError> {
-    let mut feed = Feed::new(rt.alloc());
-    feed.push(bytes)?;
-    Ok(feed.next())
 }
 
 #[test]
@@ -67,7 +50,7 @@ fn a_beginning_wants_more_and_a_frame_is_its_request(rt: HostRuntime) -> Result<
 }
 
 #[test]
-fn bytes_that_begin_no_request_are_bad(rt: HostRuntime) -> Result<(), Fail> {
+fn bytes_that_begin_no_request_are_bad_from_then_on(rt: HostRuntime) -> Result<(), Fail> {
     let cases: [(&[u8], Step); 17] = [
         (b"", Step::More),
         (b"\x00", Step::More),
@@ -87,19 +70,15 @@ fn bytes_that_begin_no_request_are_bad(rt: HostRuntime) -> Result<(), Fail> {
         (b"\x00\x33\x03", Step::Bad),
         (b"\x00\x33\x07", Step::Bad),
     ];
-    for (bytes, want) in &cases {
-        assert_same_at(&rt, step_of(&rt, bytes)?, *want, *bytes);
+    for (bytes, want) in cases {
+        let mut feed = Feed::new(rt.alloc());
+        feed.push(bytes)?;
+        assert_same_at(&rt, feed.next(), want, bytes);
+        if want == Step::Bad {
+            feed.push(FRAMES[0])?;
+            assert_same_at(&rt, feed.next(), Step::Bad, bytes);
+        }
     }
-    Ok(())
-}
-
-#[test]
-fn a_bad_feed_stays_bad(rt: HostRuntime) -> Result<(), Fail> {
-    let mut feed = Feed::new(rt.alloc());
-    feed.push(b"\x00\x11\x06")?;
-    assert_same(&rt, feed.next(), Step::Bad);
-    feed.push(FRAMES[0])?;
-    assert_same(&rt, feed.next(), Step::Bad);
     Ok(())
 }
 
@@ -110,7 +89,7 @@ fn take_all(rt: &impl Abort, feed: &mut Feed, want: &[Request], place: usize) ->
         let Step::Request(request) = feed.next() else {
             return place;
         };
-        assert_eq!(rt; want.get(place), Some(&request));
+        assert_same(rt, want.get(place).copied(), Some(request));
         place = place.saturating_add(1);
     }
     place
@@ -120,115 +99,122 @@ fn take_all(rt: &impl Abort, feed: &mut Feed, want: &[Request], place: usize) ->
 fn a_stream_cut_anywhere_has_the_same_requests(rt: HostRuntime) -> Result<(), Fail> {
     let want = requests();
     let stream = joined(rt.alloc(), &FRAMES)?;
-    assert_eq!(rt; stream.len(), 83);
-    for cut in 0..=83usize {
+    assert_same(&rt, stream.len(), 136);
+    for cut in 0..=136usize {
         let (first, second) = stream.split_at(cut);
         let mut feed = Feed::new(rt.alloc());
         feed.push(first)?;
         let taken = take_all(&rt, &mut feed, &want, 0);
         feed.push(second)?;
         let taken = take_all(&rt, &mut feed, &want, taken);
-        assert_same_at(&rt, (taken, feed.next()), (5, Step::More), cut);
+        assert_same_at(&rt, (taken, feed.next()), (6, Step::More), cut);
     }
     Ok(())
 }
 
 #[test]
-fn a_revision_is_its_request_however_it_is_cut(rt: HostRuntime) -> Result<(), Fail> {
-    for cut in 0..=53usize {
-        let (first, second) = REVISION.split_at(cut);
-        let mut feed = Feed::new(rt.alloc());
-        feed.push(first)?;
-        if cut < 53 {
-            assert_same_at(&rt, feed.next(), Step::More, cut);
-        }
-        feed.push(second)?;
-        assert_same_at(&rt, feed.next(), Step::Request(revision()), cut);
-        assert_same_at(&rt, feed.next(), Step::More, cut);
-    }
-    assert_same(&rt, Request::read_whole(REVISION), Some(revision()));
-    Ok(())
-}
-
-#[test]
-fn bytes_behind_a_frame_are_left(rt: HostRuntime) -> Result<(), Fail> {
+fn bytes_behind_a_frame_are_left(rt: HostRuntime) {
     let bytes = b"\x00\x05\x05\x00\x00\x00\x01\x00";
     assert_same(&rt, Request::read(bytes), Some((Request::Enquire(1), 7)));
     assert_same(&rt, Request::read_whole(bytes), None);
     let longer = b"\x00\x06\x05\x00\x00\x00\x01\x00";
     assert_same(&rt, Request::read(longer), None);
-    Ok(())
+}
+
+/// Faults, each with the gate and the number of its touch.
+const FAULTS: [(FaultCode, u16, u32, &[u8]); 8] = [
+    (FaultCode::BadFrame, 0, 0, BAD_FRAME),
+    (
+        FaultCode::Conflict,
+        7,
+        4,
+        b"\x00\x08\xff\x02\x00\x07\x00\x00\x00\x04",
+    ),
+    (
+        FaultCode::Halted,
+        7,
+        4,
+        b"\x00\x08\xff\x03\x00\x07\x00\x00\x00\x04",
+    ),
+    (
+        FaultCode::Memory,
+        7,
+        4,
+        b"\x00\x08\xff\x04\x00\x07\x00\x00\x00\x04",
+    ),
+    (
+        FaultCode::Full,
+        7,
+        3,
+        b"\x00\x08\xff\x05\x00\x07\x00\x00\x00\x03",
+    ),
+    (
+        FaultCode::UnknownTable,
+        7,
+        6,
+        b"\x00\x08\xff\x06\x00\x07\x00\x00\x00\x06",
+    ),
+    (
+        FaultCode::NotAllowed,
+        7,
+        4,
+        b"\x00\x08\xff\x07\x00\x07\x00\x00\x00\x04",
+    ),
+    (
+        FaultCode::NotAllowed,
+        0,
+        0,
+        b"\x00\x08\xff\x07\x00\x00\x00\x00\x00\x00",
+    ),
+];
+
+/// The answer has these bytes, which begin no request.
+fn assert_answer(rt: &impl Abort, answer: Answer, bytes: &[u8]) {
+    let mut out = [0; 22];
+    let size = answer.write_into(&mut out);
+    assert_same_at(rt, out.get(..size), Some(bytes), answer);
+    assert_same(rt, first_frame(bytes), FirstFrame::Bad);
 }
 
 #[test]
 fn answers_are_these_bytes(rt: HostRuntime) {
-    let reply = |number, verdict, change, balance| Answer::Reply {
-        gate: 7,
-        number,
-        reply: Reply {
+    // Replies: the number, the verdict, the change and the balance.
+    let replies = [
+        (1, 8, 0, 0, ANSWERS[0]),
+        (2, 7, 2000, 2000, ANSWERS[1]),
+        (3, 1, -900, 1100, ANSWERS[2]),
+        (4, 4, 550, 1650, ANSWERS[3]),
+        (5, 1, -900, -710, BELOW_ZERO),
+    ];
+    for (number, verdict, change, balance, bytes) in replies {
+        let reply = Reply {
             verdict,
             change,
             balance,
-        },
-    };
-    let holding = |state, balance| Answer::Holding {
-        view: CardView { state, balance },
-        front: 4,
-    };
-    let fault = |fault: FaultCode, gate, number| Answer::Fault {
-        code: fault.code(),
-        gate,
-        number,
-    };
-    let cases: [(Answer, &[u8]); 16] = [
-        (reply(1, 8, 0, 0), ANSWERS[0]),
-        (reply(2, 7, 2000, 2000), ANSWERS[1]),
-        (reply(3, 1, -900, 1100), ANSWERS[2]),
-        (reply(4, 4, 550, 1650), ANSWERS[3]),
-        (reply(5, 1, -900, -710), BELOW_ZERO),
-        (holding(CardState::Outside, 1650), ANSWERS[4]),
-        (
-            holding(CardState::Vacant, 0),
-            b"\x00\x0e\x85\x00\x00\x00\x00\x00\x00\x00\x00\x00\x00\x00\x00\x04",
-        ),
-        (
-            holding(CardState::Inside, 1100),
-            b"\x00\x0e\x85\x02\x00\x00\x00\x00\x00\x00\x04\x4c\x00\x00\x00\x04",
-        ),
-        (fault(FaultCode::BadFrame, 0, 0), BAD_FRAME),
-        (
-            fault(FaultCode::Conflict, 7, 4),
-            b"\x00\x08\xff\x02\x00\x07\x00\x00\x00\x04",
-        ),
-        (
-            fault(FaultCode::Halted, 7, 4),
-            b"\x00\x08\xff\x03\x00\x07\x00\x00\x00\x04",
-        ),
-        (
-            fault(FaultCode::Memory, 7, 4),
-            b"\x00\x08\xff\x04\x00\x07\x00\x00\x00\x04",
-        ),
-        (
-            fault(FaultCode::Full, 7, 3),
-            b"\x00\x08\xff\x05\x00\x07\x00\x00\x00\x03",
-        ),
-        (
-            fault(FaultCode::UnknownTable, 7, 6),
-            b"\x00\x08\xff\x06\x00\x07\x00\x00\x00\x06",
-        ),
-        (
-            fault(FaultCode::NotAllowed, 7, 4),
-            b"\x00\x08\xff\x07\x00\x07\x00\x00\x00\x04",
-        ),
-        (
-            fault(FaultCode::NotAllowed, 0, 0),
-            b"\x00\x08\xff\x07\x00\x00\x00\x00\x00\x00",
-        ),
+        };
+        let answer = Answer::Reply {
+            gate: 7,
+            number,
+            reply,
+        };
+        assert_answer(&rt, answer, bytes);
+    }
+    // What cards hold: the state and the balance.
+    let holdings = [
+        (CardState::Outside, 1650, ANSWERS[4]),
+        (CardState::Vacant, 0, VACANT),
+        (CardState::Inside, 1100, INSIDE),
     ];
-    for (answer, bytes) in &cases {
-        let mut out = [0; 22];
-        let size = answer.write_into(&mut out);
-        assert_same_at(&rt, out.get(..size), Some(*bytes), *answer);
-        assert_same(&rt, first_frame(bytes), FirstFrame::Bad);
+    for (state, balance, bytes) in holdings {
+        let view = CardView { state, balance };
+        assert_answer(&rt, Answer::Holding { view, front: 4 }, bytes);
+    }
+    for (fault, gate, number, bytes) in FAULTS {
+        let answer = Answer::Fault {
+            code: fault.code(),
+            gate,
+            number,
+        };
+        assert_answer(&rt, answer, bytes);
     }
 }

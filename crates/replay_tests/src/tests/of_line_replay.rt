@@ -3,56 +3,50 @@
 
 mod journeys;
 mod memory;
-mod revision;
 mod rows;
+mod tables;
 
-ghost use Rattle.std.specs.Prelude.{◌≡◌, [], IfSome};
-ghost use Rattle.fare_schedule.specs.Schedule.{revisions_of};
-
-use fare_schedule::Schedule;
-use fare_table::{EXAMPLE_TABLE, Fares};
+use super::assert_same_at;
 use line_replay::{ReplayFault, replay_text};
 use reply_book::NameHashing;
-use rows::{ASKED_AGAIN, FIRST_PATH, MISSING_TOUCHES, REFUSALS};
+use rows::{ASKED_AGAIN, FIRST_PATH, MISSING_TOUCHES, REFUSALS, REVISION, UNKNOWN_TABLE};
 use std::alloc::{AllocError, Global};
 use std::fmt::Debug;
 use std::io::{Read, Write};
 use std::process::Abort;
 use std::test::Fail;
+use tables::schedule_of;
 use test_streams::{Pieces, Taker};
 use text_io::RunFault;
 
 /// A line that is asked, and the line that answers it.
 type Row = (&'static str, &'static str);
 
-/// The lines of some rows, each with its line feed: those that are read, or those written.
-fn lines_of(alloc: Global, rows: &[Row], written: bool) -> Result<Vec<u8>, AllocError> {
+/// The lines of some tables of rows, each with its line feed: those that are read, or those
+/// written.
+fn lines_of(alloc: Global, tables: &[&[Row]], written: bool) -> Result<Vec<u8>, AllocError> {
     let mut text = Vec::new(alloc);
-    for row in rows {
-        let (asked, answered) = *row;
-        let line = if written { answered } else { asked };
-        text.extend_from_slice(line.as_bytes())?;
-        text.push(b'\n')?;
+    for rows in tables {
+        for row in rows.iter() {
+            let (asked, answered) = *row;
+            let line = if written { answered } else { asked };
+            text.extend_from_slice(line.as_bytes())?;
+            text.push(b'\n')?;
+        }
     }
     Ok(text)
 }
 
-/// A schedule of the example table alone. There is none for want of memory.
-fn example(alloc: Global) -> Option<Schedule>
-    ensures { IfSome result (λ schedule. revisions_of schedule ≡ []) }
-{
-    let first = Fares::read(alloc, EXAMPLE_TABLE).ok()?;
-    Schedule::new(alloc, first).ok()
-}
-
-/// How a replay by the example table ends, on ten cards.
+/// How a replay by the example table ends, and by the revised one too where `revised`, on ten
+/// cards.
 fn run<R: Read, W: Write>(
     alloc: Global,
+    revised: bool,
     reader: &mut R,
     writer: &mut W,
     turns: u32,
 ) -> Result<Result<(), ReplayFault>, Fail> {
-    let schedule = example(alloc).ok_or("a schedule")?;
+    let schedule = schedule_of(alloc, revised).ok_or("a schedule")?;
     Ok(replay_text(
         alloc,
         NameHashing::fixed(),
@@ -64,241 +58,233 @@ fn run<R: Read, W: Write>(
     ))
 }
 
-/// What is written for bytes that come in one piece, and how the run ends.
-fn replayed(alloc: Global, bytes: &[u8]) -> Result<(Vec<u8>, Result<(), ReplayFault>), Fail> {
-    let mut reader = bytes;
-    let mut written = Vec::new(alloc);
-    let ended = run(alloc, &mut reader, &mut written, 1_000)?;
-    Ok((written, ended))
-}
-
-/// These are equal, in the case that is named.
-fn assert_same_at<T: PartialEq + Debug + Copy, C: Debug + Copy>(
-    rt: &impl Abort,
-    found: T,
-    want: T,
-    at: C,
-) {
-    assert_eq!(rt; found, want, "{at:?}");
-}
-
-/// A run on some bytes ends so and writes this, in the case that is named.
+/// A run on some bytes, by the example table or by the revised one too, ends so and writes this, in
+/// the case that is named.
 fn assert_replayed<R: Abort + AllocGlobal, C: Debug + Copy>(
     rt: &R,
-    bytes: &[u8],
+    (bytes, revised): (&[u8], bool),
     end: Result<(), ReplayFault>,
     want: &[u8],
     at: C,
 ) -> Result<(), Fail> {
-    let (written, ended) = replayed(rt.alloc(), bytes)?;
+    let mut reader = bytes;
+    let mut written = Vec::new(rt.alloc());
+    let ended = run(rt.alloc(), revised, &mut reader, &mut written, 1_000)?;
     assert_same_at(rt, ended, end, at);
     assert_same_at(rt, written.as_slice(), want, at);
     Ok(())
 }
 
-/// The lines of some rows are answered by theirs.
-fn assert_answered<R: Abort + AllocGlobal>(rt: &R, rows: &[Row]) -> Result<(), Fail> {
-    let asked = lines_of(rt.alloc(), rows, false)?;
-    let answered = lines_of(rt.alloc(), rows, true)?;
-    assert_replayed(
-        rt,
-        asked.as_slice(),
-        Ok(()),
-        answered.as_slice(),
-        rows.len(),
-    )
+/// The lines of some tables of rows are answered by theirs.
+fn assert_answered<R: Abort + AllocGlobal>(
+    rt: &R,
+    tables: &[&[Row]],
+    revised: bool,
+    at: &str,
+) -> Result<(), Fail> {
+    let asked = lines_of(rt.alloc(), tables, false)?;
+    let answered = lines_of(rt.alloc(), tables, true)?;
+    assert_replayed(rt, (&asked, revised), Ok(()), &answered, at)
 }
 
 #[test]
 fn worked_lines_get_their_answers(rt: HostRuntime) -> Result<(), Fail> {
-    let alloc = rt.alloc();
-    let mut asked_again = FIRST_PATH.to_vec(alloc)?;
-    asked_again.extend_from_slice(&ASKED_AGAIN)?;
-    let tables: [&[Row]; 5] = [
-        &[],
-        &FIRST_PATH,
-        asked_again.as_slice(),
-        &MISSING_TOUCHES,
-        &REFUSALS,
+    let cases: [(&[&[Row]], bool, &str); 7] = [
+        (&[], false, "no line"),
+        (&[&FIRST_PATH], false, "the first path"),
+        (&[&FIRST_PATH, &ASKED_AGAIN], false, "asked again"),
+        (&[&MISSING_TOUCHES], false, "missing touches"),
+        (&[&REFUSALS], false, "refusals"),
+        (
+            &[&FIRST_PATH, &REVISION],
+            true,
+            "a revision changes the fares of later journeys",
+        ),
+        (
+            &[&FIRST_PATH, &UNKNOWN_TABLE],
+            false,
+            "a revision to a table that isn't there is no entry",
+        ),
     ];
-    for rows in tables {
-        assert_answered(&rt, rows)?;
+    for (tables, revised, at) in cases {
+        assert_answered(&rt, tables, revised, at)?;
     }
     Ok(())
 }
 
+/// The answer to a bad line.
+const BAD: &[u8] = b"0008ff01000000000000\n";
+
+/// The answers to one and to two enquiries of cards that weren't issued, and then to a bad line.
+const VACANT_BAD: &[u8] = b"000e8500000000000000000000000000\n0008ff01000000000000\n";
+
+const TWO_VACANT: &[u8] = b"000e8500000000000000000000000000\n000e8500000000000000000000000000\n";
+
+const TWO_VACANT_BAD: &[u8] = b"000e8500000000000000000000000000\n\
+    000e8500000000000000000000000000\n0008ff01000000000000\n";
+
 #[test]
-fn digits_of_either_case_and_a_last_line_without_a_line_feed_are_read(
-    rt: HostRuntime,
+fn digits_of_either_case_are_read_and_a_bad_line_ends_the_run(rt: HostRuntime) -> Result<(), Fail> {
+    let long = b"000505000000010000000000000000000000000000000000000000000000000000\
+          000000000000000000000000000000000000000000000000000000000000000000";
+    let (revision, _) = REVISION[1];
+    let revision = revision.as_bytes();
+    let first = Err(ReplayFault::BadLine(1));
+    let second = Err(ReplayFault::BadLine(2));
+    let third = Err(ReplayFault::BadLine(3));
+    let rows: [(&[u8], Result<(), ReplayFault>, &[u8]); 13] = [
+        // The last line has no line feed.
+        (b"0005050000000a\n0005050000000B", Ok(()), TWO_VACANT),
+        (b"zz\n", first, BAD),
+        (b"\n", first, BAD),
+        (b"000505000000 1\n", first, BAD),
+        (b"00050500000001\r\n", first, BAD),
+        (b"0005050000000100\n", first, BAD),
+        (b"\xff\xfe\n", first, BAD),
+        (&long[..128], first, BAD),
+        (&long[..129], first, BAD),
+        // A revision of another length.
+        (&revision[..104], first, BAD),
+        (&revision[..105], first, BAD),
+        (b"00050500000001\n\n00050500000001\n", second, VACANT_BAD),
+        (b"00050500000001\n00050500000001\nzz", third, TWO_VACANT_BAD),
+    ];
+    for (bytes, end, want) in rows {
+        assert_replayed(&rt, (bytes, false), end, want, bytes)?;
+    }
+    Ok(())
+}
+
+/// A run under test: how its reader and its writer behave.
+#[derive(Clone, Copy)]
+struct Trial {
+    /// The most bytes of a read, and whether the reader fails behind the last byte.
+    read: usize,
+    reader_fails: bool,
+    turns: u32,
+    /// The most bytes of a write, how many bytes the writer takes in all, and whether it fails
+    /// behind them and doesn't take 0 bytes.
+    write: usize,
+    room: usize,
+    writer_fails: bool,
+}
+
+/// All is read at once and written at once.
+const AT_ONCE: Trial = Trial {
+    read: 1_000,
+    reader_fails: false,
+    turns: 1_000,
+    write: 1_000,
+    room: 1_000,
+    writer_fails: false,
+};
+
+/// The run on some bytes ends so, and writes as much of the answers as there is room for, in the
+/// case that is named.
+fn assert_tried<R: Abort + AllocGlobal>(
+    rt: &R,
+    asked: &[u8],
+    trial: Trial,
+    end: Result<(), ReplayFault>,
+    answers: &[u8],
+    at: &str,
 ) -> Result<(), Fail> {
-    let vacant = b"000e8500000000000000000000000000\n000e8500000000000000000000000000\n";
-    assert_replayed(
-        &rt,
-        b"0005050000000a\n0005050000000B",
-        Ok(()),
-        vacant,
-        "vacant",
-    )
+    let mut reader = Pieces {
+        rest: asked,
+        size: trial.read,
+        fails: trial.reader_fails,
+    };
+    let mut writer = Taker {
+        taken: Vec::new(rt.alloc()),
+        size: trial.write,
+        left: trial.room,
+        fails: trial.writer_fails,
+        holds: false,
+    };
+    let ended = run(rt.alloc(), false, &mut reader, &mut writer, trial.turns)?;
+    assert_same_at(rt, ended, end, at);
+    let want = answers.get(..trial.room.min(answers.len()));
+    assert_same_at(rt, Some(writer.taken.as_slice()), want, at);
+    Ok(())
+}
+
+/// A read that fails, and a run of as many reads as are allowed.
+const READ: Result<(), ReplayFault> = Err(ReplayFault::Run(RunFault::Read));
+
+/// A write that fails or takes nothing.
+const WRITE: Result<(), ReplayFault> = Err(ReplayFault::Run(RunFault::Write));
+
+/// A run in which the reader fails at its end.
+const READER_FAILS: Trial = Trial {
+    read: 1_000,
+    reader_fails: true,
+    turns: 1_000,
+    write: 1_000,
+    room: 1_000,
+    writer_fails: false,
+};
+
+/// A run that may make so many reads.
+const fn of_turns(turns: u32) -> Trial {
+    Trial { turns, ..AT_ONCE }
+}
+
+/// A run whose writer takes seven bytes a write and so many in all, and then nothing or fails.
+const fn of_room(room: usize, writer_fails: bool) -> Trial {
+    Trial {
+        write: 7,
+        room,
+        writer_fails,
+        ..AT_ONCE
+    }
 }
 
 #[test]
-fn a_bad_line_is_answered_by_its_fault_and_ends_the_run(rt: HostRuntime) -> Result<(), Fail> {
-    let alloc = rt.alloc();
-    let good = b"000505000000010000000000000000000000000000000000000000000000000000\
-          000000000000000000000000000000000000000000000000000000000000000000";
-    let bad: [(&[u8], u64, usize); 10] = [
-        (b"zz\n", 1, 21),
-        (b"\n", 1, 21),
-        (b"000505000000 1\n", 1, 21),
-        (b"00050500000001\r\n", 1, 21),
-        (b"0005050000000100\n", 1, 21),
-        (b"\xff\xfe\n", 1, 21),
-        (&good[..128], 1, 21),
-        (&good[..129], 1, 21),
-        (b"00050500000001\n\n00050500000001\n", 2, 33 + 21),
-        (b"00050500000001\n00050500000001\nzz", 3, 2 * 33 + 21),
+fn answers_stand_up_to_a_read_or_a_write_that_fails(rt: HostRuntime) -> Result<(), Fail> {
+    let asked = lines_of(rt.alloc(), &[&FIRST_PATH], false)?;
+    let asked = asked.as_slice();
+    let answers = lines_of(rt.alloc(), &[&FIRST_PATH], true)?;
+    let answers = answers.as_slice();
+    // The first line has 35 bytes, and its answer 45.
+    let first = asked.get(..35).unwrap_or(b"too few");
+    let answer = answers.get(..45).unwrap_or(b"too few");
+    let by_one = Trial {
+        read: 1,
+        write: 1,
+        ..AT_ONCE
+    };
+    let rows = [
+        (asked, by_one, Ok(()), answers, "bytes one by one"),
+        (asked, READER_FAILS, READ, answers, "a read fails"),
+        (asked, of_turns(1), READ, answers, "one read"),
+        (asked, of_turns(2), Ok(()), answers, "two reads"),
+        (asked, of_room(0, true), WRITE, answers, "no room"),
+        (asked, of_room(45, true), WRITE, answers, "room for 45"),
+        (asked, of_room(100, false), WRITE, answers, "room for 100"),
+        (asked, of_room(179, true), WRITE, answers, "room for 179"),
+        (
+            first,
+            READER_FAILS,
+            READ,
+            answer,
+            "a line and a failed read",
+        ),
+        (first, of_room(0, true), WRITE, answer, "a line and no room"),
     ];
-    for (bytes, number, size) in bad {
-        let (written, ended) = replayed(alloc, bytes)?;
-        assert_same_at(&rt, ended, Err(ReplayFault::BadLine(number)), number);
-        let fault = b"0008ff01000000000000\n";
-        assert_same_at(&rt, written.ends_with(fault), true, number);
-        assert_same_at(&rt, written.len(), size, number);
+    for (asked, trial, end, answers, at) in rows {
+        assert_tried(&rt, asked, trial, end, answers, at)?;
     }
     Ok(())
 }
 
 #[test]
 fn a_line_is_too_long_at_its_129th_byte_and_not_before(rt: HostRuntime) -> Result<(), Fail> {
-    let alloc = rt.alloc();
     let zeros = [b'0'; 129];
-    for (size, fault) in [
-        (128, ReplayFault::Run(RunFault::Read)),
-        (129, ReplayFault::BadLine(1)),
-    ] {
-        let mut reader = Pieces {
-            rest: &zeros[..size],
-            size: 64,
-            fails: true,
-        };
-        let mut written = Vec::new(alloc);
-        let ended = run(alloc, &mut reader, &mut written, 1_000)?;
-        assert_same_at(&rt, ended, Err(fault), size);
-    }
-    Ok(())
-}
-
-#[test]
-fn bytes_one_by_one_make_the_same_answers(rt: HostRuntime) -> Result<(), Fail> {
-    let alloc = rt.alloc();
-    let asked = lines_of(alloc, &FIRST_PATH, false)?;
-    let answered = lines_of(alloc, &FIRST_PATH, true)?;
-    let mut reader = Pieces {
-        rest: asked.as_slice(),
-        size: 1,
-        fails: false,
+    let by_64 = Trial {
+        read: 64,
+        ..READER_FAILS
     };
-    let mut writer = Taker {
-        taken: Vec::new(alloc),
-        size: 1,
-        left: usize::MAX,
-        fails: false,
-        holds: false,
-    };
-    let ended = run(alloc, &mut reader, &mut writer, 1_000)?;
-    assert_same_at(&rt, ended, Ok(()), "end");
-    assert_same_at(&rt, writer.taken.as_slice(), answered.as_slice(), "answers");
-    Ok(())
-}
-
-/// A run of so many turns on a reader ends so and writes this.
-fn assert_read<R: Abort + AllocGlobal>(
-    rt: &R,
-    mut reader: Pieces<'_>,
-    turns: u32,
-    end: Result<(), ReplayFault>,
-    want: &[u8],
-) -> Result<(), Fail> {
-    let mut written = Vec::new(rt.alloc());
-    let ended = run(rt.alloc(), &mut reader, &mut written, turns)?;
-    assert_same_at(rt, ended, end, turns);
-    assert_same_at(rt, written.as_slice(), want, turns);
-    Ok(())
-}
-
-#[test]
-fn answers_stand_where_a_read_fails_or_is_one_too_many(rt: HostRuntime) -> Result<(), Fail> {
-    let alloc = rt.alloc();
-    let asked = lines_of(alloc, &FIRST_PATH, false)?;
-    let answered = lines_of(alloc, &FIRST_PATH, true)?;
-    for (fails, turns, ended) in [
-        (true, 1_000, Err(ReplayFault::Run(RunFault::Read))),
-        (false, 1, Err(ReplayFault::Run(RunFault::Read))),
-        (false, 2, Ok(())),
-    ] {
-        let reader = Pieces {
-            rest: asked.as_slice(),
-            size: 1_000,
-            fails,
-        };
-        assert_read(&rt, reader, turns, ended, answered.as_slice())?;
-    }
-    Ok(())
-}
-
-/// A writer that fails or takes nothing takes so many bytes of the answers before that.
-fn assert_begun<R: Abort + AllocGlobal>(
-    rt: &R,
-    asked: &[u8],
-    answered: &[u8],
-    left: usize,
-    fails: bool,
-) -> Result<(), Fail> {
-    let mut reader = asked;
-    let mut writer = Taker {
-        taken: Vec::new(rt.alloc()),
-        size: 7,
-        left,
-        fails,
-        holds: false,
-    };
-    let ended = run(rt.alloc(), &mut reader, &mut writer, 1_000)?;
-    assert_same_at(rt, ended, Err(ReplayFault::Run(RunFault::Write)), left);
-    assert_same_at(rt, writer.taken.len(), left, left);
-    assert_same_at(
-        rt,
-        answered.starts_with(writer.taken.as_slice()),
-        true,
-        left,
-    );
-    Ok(())
-}
-
-#[test]
-fn a_beginning_stands_where_a_write_fails_or_takes_nothing(rt: HostRuntime) -> Result<(), Fail> {
-    let alloc = rt.alloc();
-    let asked = lines_of(alloc, &FIRST_PATH, false)?;
-    let answered = lines_of(alloc, &FIRST_PATH, true)?;
-    for (left, fails) in [(0, true), (45, true), (100, false), (179, true)] {
-        assert_begun(&rt, asked.as_slice(), answered.as_slice(), left, fails)?;
-    }
-    Ok(())
-}
-
-#[test]
-fn one_line_is_answered_before_a_read_fails_and_not_where_the_write_does(
-    rt: HostRuntime,
-) -> Result<(), Fail> {
-    let alloc = rt.alloc();
-    let first = &FIRST_PATH[..1];
-    let asked = lines_of(alloc, first, false)?;
-    let answered = lines_of(alloc, first, true)?;
-    let reader = Pieces {
-        rest: asked.as_slice(),
-        size: 1_000,
-        fails: true,
-    };
-    let ended = Err(ReplayFault::Run(RunFault::Read));
-    assert_read(&rt, reader, 1_000, ended, answered.as_slice())?;
-    assert_begun(&rt, asked.as_slice(), answered.as_slice(), 0, true)
+    assert_tried(&rt, &zeros[..128], by_64, READ, b"", "128 bytes")?;
+    let bad = Err(ReplayFault::BadLine(1));
+    assert_tried(&rt, &zeros, by_64, bad, BAD, "129 bytes")
 }

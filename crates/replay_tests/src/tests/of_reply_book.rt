@@ -16,30 +16,16 @@ mod revised;
 mod revisions;
 mod rows;
 
+use super::{assert_same, assert_same_at};
 use fare_schedule::Schedule;
 use fare_table::{EXAMPLE_TABLE, Fares};
 use money_time::Stamp;
 use oyster_account::{CardState, CardView, Reply, Touch};
 use reply_book::{Book, Entry, Found, NameHashing, ReplayFault};
-use rows::{Row, first_example, first_touches, leave, reply, view};
+use revised::REVISED_TABLE;
+use rows::{Row, first_example, first_touches, leave, reply, stray, view};
 use std::alloc::{AllocError, Global};
-use std::fmt::Debug;
 use std::process::Abort;
-
-/// These are equal.
-fn assert_same<T: PartialEq + Debug + Copy>(rt: &impl Abort, found: T, want: T) {
-    assert_eq!(rt; found, want);
-}
-
-/// These are equal, in this case.
-fn assert_same_at<T: PartialEq + Debug + Copy, C: Debug + Copy>(
-    rt: &impl Abort,
-    found: T,
-    want: T,
-    at: C,
-) {
-    assert_eq!(rt; found, want, "{at:?}");
-}
 
 /// This holds.
 fn assert_that(rt: &impl Abort, holds: bool)
@@ -142,47 +128,59 @@ fn table(rt: &impl Abort, alloc: Global, text: &str) -> Fares {
     Fares::read(alloc, text).expect(rt, "the table is read")
 }
 
-/// The example table alone.
-fn example_schedule(rt: &impl Abort, alloc: Global) -> Schedule
+/// Supplies the revised table. Where one allocation is refused, the second call meets none.
+fn supply(rt: &impl Abort, alloc: Global, schedule: &mut Schedule)
+    ensures { revisions_of schedule.new ≡ revisions_of schedule.old }
+{
+    if schedule.supply(table(rt, alloc, REVISED_TABLE)).is_err() {
+        let supplied = schedule.supply(table(rt, alloc, REVISED_TABLE));
+        supplied.expect(rt, "the second call meets no refusal");
+    }
+}
+
+/// The example table, and beside it the revised one where `revised`.
+fn schedule_of(rt: &impl Abort, alloc: Global, revised: bool) -> Schedule
     ensures { revisions_of result ≡ [] }
 {
     let schedule = Schedule::new(alloc, table(rt, alloc, EXAMPLE_TABLE));
-    schedule.expect(rt, "it takes no memory")
+    let mut schedule = schedule.expect(rt, "it takes no memory");
+    if !revised {
+        return schedule;
+    }
+    supply(rt, alloc, &mut schedule);
+    schedule
 }
 
-/// A book of ten cards and of the example table alone. Where one allocation is refused, the second
-/// call meets none.
-fn empty_book(rt: &impl Abort, alloc: Global) -> Book
+/// A book of ten cards and of the example table, and of the revised one too where `revised`. Where
+/// one allocation is refused, the second call meets none.
+fn empty_book(rt: &impl Abort, alloc: Global, revised: bool) -> Book
     ensures entries { length (entries_of result) ≡ 0 }
     ensures stands { Stands result }
 {
-    if let Ok(book) = Book::new(alloc, NameHashing::fixed(), 10, example_schedule(rt, alloc)) {
+    let schedule = schedule_of(rt, alloc, revised);
+    if let Ok(book) = Book::new(alloc, NameHashing::fixed(), 10, schedule) {
         return book;
     }
-    let book = Book::new(alloc, NameHashing::fixed(), 10, example_schedule(rt, alloc));
+    let schedule = schedule_of(rt, alloc, revised);
+    let book = Book::new(alloc, NameHashing::fixed(), 10, schedule);
     book.expect(rt, "the second call meets no refusal")
 }
 
-/// What the book of these touches is, of ten cards and of the example table alone. Where one
-/// allocation is refused, the second call meets none.
-fn replayed(rt: &impl Abort, alloc: Global, touches: &[Touch]) -> Result<Book, ReplayFault>
+/// What the book of these touches is, of ten cards and of such tables. Where one allocation is
+/// refused, the second call meets none.
+fn replayed(
+    rt: &impl Abort,
+    alloc: Global,
+    revised: bool,
+    touches: &[Touch],
+) -> Result<Book, ReplayFault>
     requires { length touches.now < 100 }
 {
-    match Book::replay(
-        alloc,
-        NameHashing::fixed(),
-        10,
-        example_schedule(rt, alloc),
-        touches,
-    ) {
+    let schedule = schedule_of(rt, alloc, revised);
+    match Book::replay(alloc, NameHashing::fixed(), 10, schedule, touches) {
         Err(ReplayFault::Memory) => {
-            Book::replay(
-                alloc,
-                NameHashing::fixed(),
-                10,
-                example_schedule(rt, alloc),
-                touches,
-            )
+            let schedule = schedule_of(rt, alloc, revised);
+            Book::replay(alloc, NameHashing::fixed(), 10, schedule, touches)
         }
         made => made,
     }
@@ -193,7 +191,7 @@ fn example_book(rt: &impl Abort, alloc: Global) -> Book
     ensures few { length (entries_of result) < 10 }
     ensures stands { Stands result }
 {
-    let mut book = empty_book(rt, alloc);
+    let mut book = empty_book(rt, alloc, false);
     add_first(rt, &mut book);
     book
 }
@@ -245,14 +243,6 @@ fn assert_entries(rt: &impl Abort, book: &Book, rows: &[Row; 4]) {
     }
 }
 
-/// That no book is made of any of these touches, and why.
-fn assert_told(rt: &impl Abort, alloc: Global, rows: &[([Touch; 5], ReplayFault)]) {
-    for (touches, fault) in rows {
-        let told = replayed(rt, alloc, touches).err();
-        assert_same(rt, told, Some(*fault));
-    }
-}
-
 /// That there is no room for a touch before it is made, and then there is, for no entry.
 fn assert_reserves(rt: &impl Abort, book: &mut Book) {
     assert_that(rt, !book.has_room(&leave(4, 1)));
@@ -266,13 +256,14 @@ fn assert_reserves(rt: &impl Abort, book: &mut Book) {
 }
 
 #[test]
-fn a_repeat_is_found_and_another_touch_is_a_conflict(rt: HostRuntime) {
-    let book = example_book(&rt, rt.alloc());
+fn a_book_finds_its_touches_and_shows_its_cards(rt: HostRuntime) {
+    let mut book = example_book(&rt, rt.alloc());
     let [issue, _, _, _] = first_touches();
     let other_gate = Touch {
         gate: 8,
         ..leave(4, 1)
     };
+    // A repeat is found, and another touch of its name is a conflict.
     let rows = [
         (leave(4, 1), Found::First(3, reply(4, 550, 1650))),
         (issue, Found::First(0, reply(8, 0, 0))),
@@ -282,84 +273,28 @@ fn a_repeat_is_found_and_another_touch_is_a_conflict(rt: HostRuntime) {
     ];
     assert_finds(&rt, &book, &rows);
     assert_count(&rt, &book, 4);
-    drop(book);
-}
-
-#[test]
-fn a_card_is_seen_as_its_touches_made_it(rt: HostRuntime) {
-    let book = example_book(&rt, rt.alloc());
-    let rows = [
+    // A card is seen as its touches made it.
+    let cards = [
         (1, view(CardState::Outside, 1650)),
         (2, view(CardState::Vacant, 0)),
         (0, view(CardState::Vacant, 0)),
         (11, view(CardState::Vacant, 0)),
     ];
-    assert_seen(&rt, &book, &rows);
-    drop(book);
-}
-
-#[test]
-fn a_touch_of_no_card_is_refused_and_kept(rt: HostRuntime) {
-    let mut book = example_book(&rt, rt.alloc());
-    let stray = Touch {
-        card: 11,
-        ..leave(5, 1)
-    };
-    let row = (stray, reply(20, 0, 0), view(CardState::Vacant, 0));
-    add_one(&rt, &mut book, row);
+    assert_seen(&rt, &book, &cards);
+    // A touch of no card is refused and kept.
+    add_one(&rt, &mut book, stray());
     drop(book);
 }
 
 #[test]
 fn a_touch_is_entered_as_it_was_judged(rt: HostRuntime) {
-    let mut book = empty_book(&rt, rt.alloc());
+    let mut book = empty_book(&rt, rt.alloc(), false);
     let [issue, top_up, enter, out] = first_example();
     enter_one(&rt, &mut book, issue);
     enter_one(&rt, &mut book, top_up);
     enter_one(&rt, &mut book, enter);
     enter_one(&rt, &mut book, out);
-    let stray = Touch {
-        card: 11,
-        ..leave(5, 1)
-    };
-    let row = (stray, reply(20, 0, 0), view(CardState::Vacant, 0));
-    enter_one(&rt, &mut book, row);
+    enter_one(&rt, &mut book, stray());
     assert_count(&rt, &book, 5);
-    drop(book);
-}
-
-#[test]
-fn a_book_is_made_of_its_touches(rt: HostRuntime) {
-    let book = replayed(&rt, rt.alloc(), &first_touches()).expect(&rt, "a book");
-    assert_count(&rt, &book, 4);
-    assert_entries(&rt, &book, &first_example());
-    assert_seen(&rt, &book, &[(1, view(CardState::Outside, 1650))]);
-    drop(book);
-}
-
-#[test]
-fn a_repeat_is_told_by_its_place(rt: HostRuntime) {
-    let [first, second, third, fourth] = first_touches();
-    let rows = [
-        (
-            [first, second, third, fourth, first],
-            ReplayFault::Repeated(4),
-        ),
-        (
-            [first, second, third, fourth, leave(4, 3)],
-            ReplayFault::Repeated(4),
-        ),
-        (
-            [first, second, first, fourth, second],
-            ReplayFault::Repeated(2),
-        ),
-    ];
-    assert_told(&rt, rt.alloc(), &rows);
-}
-
-#[test]
-fn room_is_made_ahead(rt: HostRuntime) {
-    let mut book = empty_book(&rt, rt.alloc());
-    assert_reserves(&rt, &mut book);
     drop(book);
 }

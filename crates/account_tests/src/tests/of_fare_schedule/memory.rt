@@ -8,7 +8,7 @@ const TRIES: u32 = 10;
 /// The example table with these changes, read again where memory was refused.
 fn read(alloc: Global, changes: &[Change]) -> Result<Fares, Fail> {
     for _ in 0..TRIES {
-        let Some(text) = changed(alloc, changes) else {
+        let Some(text) = changed(alloc, EXAMPLE_TABLE, changes) else {
             continue;
         };
         match Fares::read(alloc, text.as_str()) {
@@ -23,7 +23,7 @@ fn read(alloc: Global, changes: &[Change]) -> Result<Fares, Fail> {
 /// Supplies the revised table. Where memory was refused to it, the schedule stays.
 fn supply(rt: &impl Abort, alloc: Global, schedule: &mut Schedule) -> Result<(), Fail> {
     for _ in 0..TRIES {
-        match schedule.supply(read(alloc, &[SINGLE, MAXIMUM])?) {
+        match schedule.supply(read(alloc, &DEARER)?) {
             Ok(()) => return Ok(()),
             Err(fault) => assert_same(rt, fault, SupplyFault::Memory),
         }

@@ -13,7 +13,12 @@ fn numbered(rt: &impl Abort, alloc: Global, number: u32) -> Fares {
     let minimum = format!(in alloc; "entry_minimum = {number}")
         .ok()
         .expect(rt, "a text");
-    table(rt, alloc, &[("entry_minimum = 190", minimum.as_str())])
+    table(
+        rt,
+        alloc,
+        EXAMPLE_TABLE,
+        &[("entry_minimum = 190", minimum.as_str())],
+    )
 }
 
 // The schedule is the one of the example and of the revised table, which counts from 20095 on.
@@ -25,123 +30,85 @@ fn assert_revised(rt: &impl Abort, schedule: &Schedule) {
     assert_same(rt, schedule.last_day(), Some(20095));
 }
 
-// A table with these changes of the example is refused by this fault, and the schedule stays.
-fn assert_refused(
-    rt: &impl Abort,
-    alloc: Global,
-    schedule: &mut Schedule,
-    changes: &[Change],
-    fault: SupplyFault,
-) {
-    let refused = table(rt, alloc, changes);
-    let digest = refused.digest();
-    let known = schedule.knows(&digest);
-    assert_same(rt, schedule.supply(refused), Err(fault));
-    assert_same_at(rt, schedule.knows(&digest), known, fault);
-    assert_revised(rt, schedule);
-}
+/// The changes of the example in a table, and the fault by which it is refused.
+type Refused = (&'static [Change], SupplyFault);
 
-#[test]
-fn a_table_that_is_there_is_twice(rt: HostRuntime) {
-    let alloc = rt.alloc();
-    let mut schedule = revised(&rt, alloc, 20095);
-    assert_refused(&rt, alloc, &mut schedule, &[], SupplyFault::Twice);
-    assert_refused(
-        &rt,
-        alloc,
-        &mut schedule,
-        &[SINGLE, MAXIMUM],
-        SupplyFault::Twice,
-    );
-}
+/// The zone's rule and one without summer time, and the same rule in another text.
+const WINTER: Change = ("GMT0BST,M3.5.0/1,M10.5.0", "GMT0");
 
-#[test]
-fn a_table_of_another_zone_is_refused(rt: HostRuntime) {
-    let alloc = rt.alloc();
-    let mut schedule = revised(&rt, alloc, 20095);
-    assert_refused(&rt, alloc, &mut schedule, &[WINTER], SupplyFault::OtherZone);
-    // The same rule in another text.
-    let spelled = [("GMT0BST,", "GMT0BST-1,")];
-    assert_refused(&rt, alloc, &mut schedule, &spelled, SupplyFault::OtherZone);
-}
+const SPELLED: Change = ("GMT0BST,", "GMT0BST-1,");
 
-#[test]
-fn a_table_of_other_stations_is_refused(rt: HostRuntime) {
-    let alloc = rt.alloc();
-    let mut schedule = revised(&rt, alloc, 20095);
-    let more = [(
-        "  {id = 5,",
-        "  {id = 6, name = \"Fir\", zones = [1]},\n  {id = 5,",
-    )];
-    let renumbered = [("id = 5", "id = 6")];
-    assert_refused(
-        &rt,
-        alloc,
-        &mut schedule,
-        &[WITHOUT_5],
-        SupplyFault::OtherStations,
-    );
-    assert_refused(&rt, alloc, &mut schedule, &more, SupplyFault::OtherStations);
-    assert_refused(
-        &rt,
-        alloc,
-        &mut schedule,
-        &renumbered,
-        SupplyFault::OtherStations,
-    );
-}
+/// The row of station 5 and nothing, with a sixth station, and with another number.
+const WITHOUT_5: Change = ("  {id = 5, name = \"Elder\", zones = [2, 3]},\n", "");
 
-#[test]
-fn of_two_causes_the_lower_is_told(rt: HostRuntime) {
-    let alloc = rt.alloc();
-    let mut schedule = revised(&rt, alloc, 20095);
-    let both = [WINTER, WITHOUT_5];
-    assert_refused(&rt, alloc, &mut schedule, &both, SupplyFault::OtherZone);
-}
+const MORE: Change = (
+    "  {id = 5,",
+    "  {id = 6, name = \"Fir\", zones = [1]},\n  {id = 5,",
+);
 
-// A schedule of the example and the revised table with all tables that it may have.
-fn full(rt: &impl Abort, alloc: Global) -> Schedule {
-    let mut schedule = revised(rt, alloc, 20095);
-    for number in FIRST_NUMBER..=LAST_NUMBER {
-        let supplied = schedule.supply(numbered(rt, alloc, number));
-        assert_same_at(rt, supplied, Ok(()), number);
+const RENUMBERED: Change = ("id = 5", "id = 6");
+
+/// Tables that are there, of another zone, and of other stations. Of two causes the lower is told.
+const REFUSED: [Refused; 8] = [
+    (&[], SupplyFault::Twice),
+    (&DEARER, SupplyFault::Twice),
+    (&[WINTER], SupplyFault::OtherZone),
+    (&[SPELLED], SupplyFault::OtherZone),
+    (&[WITHOUT_5], SupplyFault::OtherStations),
+    (&[MORE], SupplyFault::OtherStations),
+    (&[RENUMBERED], SupplyFault::OtherStations),
+    (&[WINTER, WITHOUT_5], SupplyFault::OtherZone),
+];
+
+/// Each cause comes before that of one table too many, a seventeenth.
+const REFUSED_IF_FULL: [Refused; 4] = [
+    (&[], SupplyFault::Twice),
+    (&[WINTER], SupplyFault::OtherZone),
+    (&[WITHOUT_5], SupplyFault::OtherStations),
+    (
+        &[("entry_minimum = 190", "entry_minimum = 15")],
+        SupplyFault::TooMany,
+    ),
+];
+
+// Tables with these changes of the example are refused by these faults, and the schedule stays.
+fn assert_refused(rt: &impl Abort, alloc: Global, schedule: &mut Schedule, rows: &[Refused]) {
+    for (changes, fault) in rows {
+        let refused = table(rt, alloc, EXAMPLE_TABLE, *changes);
+        let digest = refused.digest();
+        let known = schedule.knows(&digest);
+        assert_same(rt, known, *fault == SupplyFault::Twice);
+        assert_same(rt, schedule.supply(refused), Err(*fault));
+        assert_same_at(rt, schedule.knows(&digest), known, *fault);
+        assert_revised(rt, schedule);
     }
-    assert_revised(rt, &schedule);
-    schedule
 }
 
 #[test]
-fn a_seventeenth_table_is_too_many(rt: HostRuntime) {
+fn a_table_is_refused_by_its_first_cause(rt: HostRuntime) {
     let alloc = rt.alloc();
-    let mut schedule = full(&rt, alloc);
-    let refused = numbered(&rt, alloc, LAST_NUMBER + 1);
-    let digest = refused.digest();
-    assert_same(&rt, schedule.supply(refused), Err(SupplyFault::TooMany));
-    assert_that(&rt, !schedule.knows(&digest));
+    let mut schedule = revised(&rt, alloc, EXAMPLE_TABLE, &DEARER, 20095);
+    assert_refused(&rt, alloc, &mut schedule, &REFUSED);
+}
+
+#[test]
+fn a_seventeenth_table_is_too_many_where_it_has_no_other_cause(rt: HostRuntime) {
+    let alloc = rt.alloc();
+    let mut schedule = revised(&rt, alloc, EXAMPLE_TABLE, &DEARER, 20095);
+    for number in FIRST_NUMBER..=LAST_NUMBER {
+        let supplied = schedule.supply(numbered(&rt, alloc, number));
+        assert_same_at(&rt, supplied, Ok(()), number);
+    }
     assert_revised(&rt, &schedule);
-}
-
-#[test]
-fn each_cause_comes_before_too_many(rt: HostRuntime) {
-    let alloc = rt.alloc();
-    let mut schedule = full(&rt, alloc);
-    assert_refused(&rt, alloc, &mut schedule, &[], SupplyFault::Twice);
-    assert_refused(&rt, alloc, &mut schedule, &[WINTER], SupplyFault::OtherZone);
-    assert_refused(
-        &rt,
-        alloc,
-        &mut schedule,
-        &[WITHOUT_5],
-        SupplyFault::OtherStations,
-    );
+    assert_refused(&rt, alloc, &mut schedule, &REFUSED_IF_FULL);
 }
 
 #[test]
 fn a_supplied_table_is_known_and_may_change_a_station(rt: HostRuntime) {
     let alloc = rt.alloc();
-    let mut schedule = revised(&rt, alloc, 20095);
+    let mut schedule = revised(&rt, alloc, EXAMPLE_TABLE, &DEARER, 20095);
     let changes = [("\"Elder\", zones = [2, 3]", "\"Eller\", zones = [3]")];
-    let supplied = table(&rt, alloc, &changes);
+    let supplied = table(&rt, alloc, EXAMPLE_TABLE, &changes);
     let digest = supplied.digest();
     assert_that(&rt, !schedule.knows(&digest));
     assert_same(&rt, schedule.supply(supplied), Ok(()));
@@ -162,20 +129,17 @@ fn a_fault_prints_its_number_and_name(rt: HostRuntime) -> Result<(), Fail> {
         let said = format!(in rt.alloc(); "{fault}")?;
         assert_same(&rt, said.as_str(), text);
     }
+    // A refused growth is the first.
+    assert_same(&rt, SupplyFault::from(AllocError), SupplyFault::Memory);
     Ok(())
-}
-
-#[test]
-fn a_refused_growth_is_memory(rt: HostRuntime) {
-    assert_eq!(rt; SupplyFault::from(AllocError), SupplyFault::Memory);
 }
 
 #[test]
 fn a_place_and_a_digest_stand_for_one_table(rt: HostRuntime) {
     let alloc = rt.alloc();
-    let alone = example(&rt, alloc);
+    let alone = schedule_of(&rt, alloc, EXAMPLE_TABLE);
     assert_same(&rt, alone.place(&REVISED), None);
-    let schedule = revised(&rt, alloc, 20095);
+    let schedule = revised(&rt, alloc, EXAMPLE_TABLE, &DEARER, 20095);
     for (digest, place) in [(EXAMPLE, Some(0)), (REVISED, Some(1)), ([0; 32], None)] {
         assert_same_at(&rt, schedule.place(&digest), place, digest);
     }

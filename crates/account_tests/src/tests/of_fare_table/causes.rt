@@ -1,13 +1,9 @@
 //! A fault of each cause that a text can have. The bad tables of scripts/tests have the others.
-use super::refused::{LOW_MAXIMUM, NO_SINGLE, SIXTH_STATION};
-use super::{Change, assert_same, changed};
+use super::{Change, assert_same_at, changed};
 use fare_table::{EXAMPLE_TABLE, Fares, Key, TableFault};
-use std::alloc::Global;
-use std::process::Abort;
-use std::test::Fail;
 
 /// A change of the example for each cause, and the fault that it makes.
-static CAUSES: [(Change, TableFault); 10] = [
+const CAUSES: [(Change, TableFault); 10] = [
     (
         ("evening_rule = true", "evening_rule ="),
         TableFault::NotToml,
@@ -32,40 +28,11 @@ static CAUSES: [(Change, TableFault); 10] = [
     (("2025-12-25", "2025-12-32"), TableFault::BadDate(1)),
 ];
 
-/// A text is refused by this fault.
-fn assert_fault(rt: &impl Abort, alloc: Global, text: &str, fault: TableFault) {
-    let found = Fares::read(alloc, text).err();
-    assert_same(rt, found, Some(fault));
-}
-
-/// The example table with these changes is refused by this fault.
-fn assert_cause(
-    rt: &impl Abort,
-    alloc: Global,
-    changes: &[Change],
-    fault: TableFault,
-) -> Result<(), Fail> {
-    let text = changed(alloc, EXAMPLE_TABLE, changes)?;
-    assert_fault(rt, alloc, text.as_str(), fault);
-    Ok(())
-}
-
 #[test]
-fn each_cause_has_its_fault(rt: HostRuntime) -> Result<(), Fail> {
+fn each_cause_has_its_fault(rt: HostRuntime) {
     for (change, fault) in CAUSES.as_slice() {
-        assert_cause(&rt, rt.alloc(), &[*change], *fault)?;
+        let text = changed(rt.alloc(), EXAMPLE_TABLE, &[*change]).expect(&rt, "a text");
+        let found = Fares::read(rt.alloc(), text.as_str()).err();
+        assert_same_at(&rt, found, Some(*fault), *change);
     }
-    Ok(())
-}
-
-#[test]
-fn faults_that_are_mended_one_by_one_are_told_in_their_order(rt: HostRuntime) -> Result<(), Fail> {
-    let alloc = rt.alloc();
-    let faults = [LOW_MAXIMUM, NO_SINGLE, SIXTH_STATION];
-    assert_cause(&rt, alloc, &faults, TableFault::Twice(Key::Station, 6))?;
-    assert_cause(&rt, alloc, &faults[..2], TableFault::MissingSingle(1, 3))?;
-    assert_cause(&rt, alloc, &faults[..1], TableFault::MaximumTooLow)?;
-    assert_fault(&rt, alloc, "x =", TableFault::NotToml);
-    assert_fault(&rt, alloc, "", TableFault::Missing(Key::Zone, 0));
-    Ok(())
 }

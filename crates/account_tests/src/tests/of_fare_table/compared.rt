@@ -1,11 +1,9 @@
 //! What two tables are compared by, and stamps by the zone of one and the holidays of the other.
 use super::fares::Moment;
-use super::{Change, assert_same, table_of};
+use super::{Change, assert_same, assert_same_at, table, table_of};
 use fare_table::{EXAMPLE_TABLE, Fares};
 use money_time::{Stamp, Window};
-use std::alloc::Global;
 use std::process::Abort;
-use std::test::Fail;
 
 /// A text in place of the example's zone, as TOML has it, and the text that it stands for.
 const ZONES: [(&str, &str); 3] = [
@@ -14,19 +12,13 @@ const ZONES: [(&str, &str); 3] = [
     ("\\u0047MT0", "GMT0"),
 ];
 
-// The example with this text of its zone tells that text.
-fn assert_zone(rt: &impl Abort, alloc: Global, text: &str, told: &str) -> Result<(), Fail> {
-    let fares = table_of(alloc, EXAMPLE_TABLE, &[("GMT0BST,M3.5.0/1,M10.5.0", text)])?;
-    assert_same(rt, fares.zone_text(), told);
-    Ok(())
-}
-
 #[test]
-fn the_text_of_the_zone_is_told(rt: HostRuntime) -> Result<(), Fail> {
+fn the_text_of_the_zone_is_told(rt: HostRuntime) {
     for (text, told) in ZONES.as_slice() {
-        assert_zone(&rt, rt.alloc(), *text, *told)?;
+        let change = [("GMT0BST,M3.5.0/1,M10.5.0", *text)];
+        let fares = table(&rt, rt.alloc(), EXAMPLE_TABLE, &change);
+        assert_same(&rt, fares.zone_text(), *told);
     }
-    Ok(())
 }
 
 /// A change of the example, whether the example has each station of the changed table, and whether
@@ -53,21 +45,17 @@ const STATIONS: [Row; 5] = [
     (("id = 5", "id = 6"), false, false),
 ];
 
-fn assert_stations_of(rt: &impl Abort, alloc: Global, row: Row) -> Result<(), Fail> {
-    let (change, is_had, has) = row;
-    let example = table_of(alloc, EXAMPLE_TABLE, &[])?;
-    let other = table_of(alloc, EXAMPLE_TABLE, &[change])?;
-    assert_same(rt, example.has_stations_of(&other), is_had);
-    assert_same(rt, other.has_stations_of(&example), has);
-    Ok(())
-}
-
 #[test]
-fn stations_are_compared_by_their_numbers(rt: HostRuntime) -> Result<(), Fail> {
-    for row in STATIONS.as_slice() {
-        assert_stations_of(&rt, rt.alloc(), *row)?;
+fn stations_are_compared_by_their_numbers(rt: HostRuntime) {
+    let example = table_of(&rt, rt.alloc(), EXAMPLE_TABLE);
+    for (change, is_had, has) in STATIONS.as_slice() {
+        let other = table(&rt, rt.alloc(), EXAMPLE_TABLE, &[*change]);
+        let found = (
+            example.has_stations_of(&other),
+            other.has_stations_of(&example),
+        );
+        assert_same_at(&rt, found, (*is_had, *has), *change);
     }
-    Ok(())
 }
 
 /// A table five hours behind, whose holiday is Monday 2025-07-07.
@@ -77,7 +65,7 @@ const BEHIND: [Change; 2] = [
 ];
 
 // By the first table's zone and the second's holidays this moment has this stamp.
-fn assert_stamp(rt: &impl Abort, one: &Fares, other: &Fares, expected: Moment) -> Result<(), Fail> {
+fn assert_stamp(rt: &impl Abort, one: &Fares, other: &Fares, expected: Moment) {
     let (moment, day, minute, window) = expected;
     let stamp = Stamp {
         moment,
@@ -85,16 +73,16 @@ fn assert_stamp(rt: &impl Abort, one: &Fares, other: &Fares, expected: Moment) -
         minute,
         window,
     };
-    assert_same(rt, other.restamp(one.stamp(moment)?), stamp);
-    Ok(())
+    let by_one = one.stamp(moment).ok().expect(rt, "a stamp");
+    assert_same(rt, other.restamp(by_one), stamp);
 }
 
 // 1751866200 is Monday 2025-07-07, 06:30 by the example's zone and 00:30 by the other, so of the
 // fare day before. 1766667600 is Thursday 2025-12-25, 13:00 and 08:00.
 #[test]
-fn a_stamp_may_go_by_the_holidays_of_another_table(rt: HostRuntime) -> Result<(), Fail> {
-    let example = table_of(rt.alloc(), EXAMPLE_TABLE, &[])?;
-    let behind = table_of(rt.alloc(), EXAMPLE_TABLE, &BEHIND)?;
+fn a_stamp_may_go_by_the_holidays_of_another_table(rt: HostRuntime) {
+    let example = table_of(&rt, rt.alloc(), EXAMPLE_TABLE);
+    let behind = table(&rt, rt.alloc(), EXAMPLE_TABLE, &BEHIND);
     let rows = [
         (&example, &example, (1751866200, 20276, 390, Window::Early)),
         (&example, &behind, (1751866200, 20276, 390, Window::Off)),
@@ -103,7 +91,6 @@ fn a_stamp_may_go_by_the_holidays_of_another_table(rt: HostRuntime) -> Result<()
         (&behind, &behind, (1766667600, 20447, 480, Window::Early)),
     ];
     for (one, other, expected) in rows {
-        assert_stamp(&rt, one, other, expected)?;
+        assert_stamp(&rt, one, other, expected);
     }
-    Ok(())
 }

@@ -1,20 +1,16 @@
 //! Lists with as many rows as they may have.
 use super::fares::{Moment, assert_stamps, assert_stations};
 use super::links::{Leg, Walk, assert_interchanges, assert_legs};
-use super::{assert_same, assert_that};
+use super::{assert_same, table_of};
 use fare_table::{Cap, Fares, Zones};
 use money_time::Window;
 use std::alloc::{AllocError, Global};
 use std::fmt::Write;
 use std::process::Abort;
-use std::test::Fail;
 
 /// The keys of a table itself.
 const RATES: &str = "zone = 'UTC0'\nentry_minimum = 1\nbalance_limit = 1\nleg_minutes = 90\n\
     evening_rule = false\nmaximum_peak = 1\nmaximum_off_peak = 1\n";
-
-/// The only station where the list is of something else.
-const STATION: &str = "{id = 1, name = 's', zones = [1]},\n";
 
 /// The only single.
 const SINGLE: &str = "{low = 1, high = 1, peak = 1, off_peak = 1}";
@@ -58,24 +54,6 @@ fn stations(alloc: Global, count: u32) -> Result<String, AllocError> {
     Ok(text)
 }
 
-// A table with these stations, one single and this list.
-fn table(alloc: Global, stations: &str, key: &str, rows: &str) -> Result<Fares, Fail> {
-    let text = format!(in alloc;
-        "{RATES}station = [{stations}]\nsingle = [{SINGLE}]\n{key} = [{rows}]\n"
-    )?;
-    Ok(Fares::read(alloc, text.as_str())?)
-}
-
-#[test]
-fn a_table_may_have_1000_stations(rt: HostRuntime) -> Result<(), Fail> {
-    let list = stations(rt.alloc(), 1_000)?;
-    let fares = table(rt.alloc(), list.as_str(), "cap", "")?;
-    assert_same(&rt, fares.station_count(), 1_000);
-    assert_that(&rt, fares.station(1_001).is_none());
-    let last = [(1_000, "Number 1000", Zones::One(1))];
-    assert_stations(&rt, &fares, &last, "1,000 stations")
-}
-
 // Interchanges of each station up to 20 with each from 101 to 150, 1,000 of them. The minutes are
 // the number of the second station.
 fn interchanges(alloc: Global) -> Result<String, AllocError> {
@@ -86,15 +64,6 @@ fn interchanges(alloc: Global) -> Result<String, AllocError> {
         write!(text, "{{a = {a}, b = {b}, minutes = {b}}},\n")?;
     }
     Ok(text)
-}
-
-#[test]
-fn a_table_may_have_1000_interchanges(rt: HostRuntime) -> Result<(), Fail> {
-    let stations = stations(rt.alloc(), 200)?;
-    let list = interchanges(rt.alloc())?;
-    let fares = table(rt.alloc(), stations.as_str(), "interchange", list.as_str())?;
-    assert_interchanges(&rt, &fares, &WALKS);
-    Ok(())
 }
 
 // Pairs of each station up to 100 with each from 101 to 200, 10,000 of them. The minutes are the
@@ -110,15 +79,6 @@ fn pairs(alloc: Global) -> Result<String, AllocError> {
         )?;
     }
     Ok(text)
-}
-
-#[test]
-fn a_table_may_have_10000_pairs(rt: HostRuntime) -> Result<(), Fail> {
-    let stations = stations(rt.alloc(), 200)?;
-    let list = pairs(rt.alloc())?;
-    let fares = table(rt.alloc(), stations.as_str(), "pair", list.as_str())?;
-    assert_legs(&rt, &fares, &LEGS);
-    Ok(())
 }
 
 // Caps of both kinds from each zone up to 4 to each from 5 to 8, 32 of them.
@@ -139,25 +99,6 @@ fn caps(alloc: Global) -> Result<String, AllocError> {
     Ok(text)
 }
 
-fn assert_caps(rt: &impl Abort, fares: &Fares) {
-    let last = Cap {
-        lo: 4,
-        hi: 8,
-        off_peak: true,
-        price: 1,
-    };
-    assert_same(rt, fares.caps().len(), 32);
-    assert_same(rt, fares.caps().last().copied(), Some(last));
-}
-
-#[test]
-fn a_table_may_have_32_caps(rt: HostRuntime) -> Result<(), Fail> {
-    let list = caps(rt.alloc())?;
-    let fares = table(rt.alloc(), STATION, "cap", list.as_str())?;
-    assert_caps(&rt, &fares);
-    Ok(())
-}
-
 // 999 times 2025-12-24, a Wednesday, and the Friday after it.
 fn holidays(alloc: Global) -> Result<String, AllocError> {
     let mut text = String::new(alloc);
@@ -168,9 +109,62 @@ fn holidays(alloc: Global) -> Result<String, AllocError> {
     Ok(text)
 }
 
+/// A table's text with so many stations, one single and this list.
+fn text(
+    alloc: Global,
+    count: u32,
+    key: &str,
+    rows: Result<String, AllocError>,
+) -> Result<String, AllocError> {
+    let rows = rows?;
+    let stations = stations(alloc, count)?;
+    format!(in alloc; "{RATES}station = [{stations}]\nsingle = [{SINGLE}]\n{key} = [{rows}]\n")
+}
+
+/// The table with so many stations, one single and this list.
+fn table(
+    rt: &impl Abort,
+    alloc: Global,
+    count: u32,
+    key: &str,
+    rows: Result<String, AllocError>,
+) -> Fares {
+    let text = text(alloc, count, key, rows).ok().expect(rt, "a text");
+    table_of(rt, alloc, text.as_str())
+}
+
+/// The last cap where there are 32.
+const LAST_CAP: Cap = Cap {
+    lo: 4,
+    hi: 8,
+    off_peak: true,
+    price: 1,
+};
+
 #[test]
-fn a_table_may_have_1000_holidays(rt: HostRuntime) -> Result<(), Fail> {
-    let list = holidays(rt.alloc())?;
-    let fares = table(rt.alloc(), STATION, "holidays", list.as_str())?;
-    assert_stamps(&rt, &fares, &MORNINGS, "1,000 holidays")
+fn a_table_may_have_1000_stations_and_32_caps(rt: HostRuntime) {
+    let fares = table(&rt, rt.alloc(), 1_000, "cap", caps(rt.alloc()));
+    assert_same(&rt, fares.station_count(), 1_000);
+    assert_same(&rt, fares.station(1_001).is_none(), true);
+    let last = [(1_000, "Number 1000", Zones::One(1))];
+    assert_stations(&rt, &fares, &last, "1,000 stations");
+    let caps = fares.caps();
+    assert_same(
+        &rt,
+        (caps.len(), caps.last().copied()),
+        (32, Some(LAST_CAP)),
+    );
+}
+
+#[test]
+fn a_table_may_have_10000_pairs_1000_interchanges_and_1000_holidays(rt: HostRuntime) {
+    let alloc = rt.alloc();
+    let paired = table(&rt, alloc, 200, "pair", pairs(alloc));
+    assert_legs(&rt, &paired, &LEGS);
+    drop(paired);
+    let linked = table(&rt, alloc, 200, "interchange", interchanges(alloc));
+    assert_interchanges(&rt, &linked, &WALKS);
+    drop(linked);
+    let festive = table(&rt, alloc, 1, "holidays", holidays(alloc));
+    assert_stamps(&rt, &festive, &MORNINGS, "1,000 holidays");
 }

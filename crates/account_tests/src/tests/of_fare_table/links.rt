@@ -1,10 +1,9 @@
 //! What two stations have between them: the minutes of a leg, and those of an interchange.
 use super::fares::leg_of;
-use super::{Change, assert_same_at, table_of};
+use super::{Change, assert_same_at, table};
 use fare_table::{EXAMPLE_TABLE, Fares};
 use money_time::Window;
 use std::process::Abort;
-use std::test::Fail;
 
 /// Two stations, and the minutes of a leg between them, its pence at peak and its highest zone.
 pub type Leg = (u16, u16, u32, u32, u8);
@@ -58,14 +57,6 @@ pub fn assert_legs(rt: &impl Abort, fares: &Fares, rows: &[Leg]) {
     }
 }
 
-// The second pair gives a price below each single, and a range of its own.
-#[test]
-fn a_pair_counts_in_both_directions(rt: HostRuntime) -> Result<(), Fail> {
-    let fares = table_of(rt.alloc(), EXAMPLE_TABLE, &MORE_ROWS)?;
-    assert_legs(&rt, &fares, &LEGS);
-    Ok(())
-}
-
 /// Interchanges of a table.
 pub fn assert_interchanges(rt: &impl Abort, fares: &Fares, rows: &[Walk]) {
     for (from, to, minutes) in rows {
@@ -73,9 +64,10 @@ pub fn assert_interchanges(rt: &impl Abort, fares: &Fares, rows: &[Walk]) {
     }
 }
 
+// The second pair gives a price below each single, and a range of its own.
 #[test]
-fn an_interchange_counts_in_both_directions(rt: HostRuntime) -> Result<(), Fail> {
-    let fares = table_of(rt.alloc(), EXAMPLE_TABLE, &MORE_ROWS)?;
+fn a_pair_and_an_interchange_count_in_both_directions(rt: HostRuntime) {
+    let fares = table(&rt, rt.alloc(), EXAMPLE_TABLE, &MORE_ROWS);
+    assert_legs(&rt, &fares, &LEGS);
     assert_interchanges(&rt, &fares, &WALKS);
-    Ok(())
 }

@@ -1,11 +1,12 @@
 //! Sessions whose readers and writers give and take little, end early, or fail.
 
 use super::fakes::{Meter, Morning, Patient};
-use super::vectors::{ANSWERS, BAD_FRAME, FRAMES};
+use super::vectors::{ANSWERS, BAD_FRAME, FRAMES, MORNING};
 use super::{assert_same, assert_same_at, joined};
 use gate_session::{End, Served, serve};
-use std::alloc::{AllocError, Global};
 use std::cell::Cell;
+use std::fmt::Debug;
+use std::process::Abort;
 use std::sync::Wait;
 use std::test::Fail;
 use test_streams::{Pieces, Taker};
@@ -27,21 +28,9 @@ struct Trial<'a> {
     turns: u32,
 }
 
-/// What comes of it: what was served, the bytes written, and how many touches were handed over.
-#[derive(Drop)]
-struct Outcome {
-    served: Served,
-    taken: Vec<u8>,
-    touches: usize,
-    enquiries: usize,
-}
-
-impl Outcome {
-    /// What was served, the bytes written, and how many touches were handed over.
-    fn told(&self) -> (Served, &[u8], usize) {
-        (self.served, self.taken.as_slice(), self.touches)
-    }
-}
+/// What comes of it: what was served, the bytes written, and how many touches and enquiries were
+/// handed over.
+type Outcome<'a> = (Served, &'a [u8], usize, usize);
 
 /// All bytes in one piece to a writer that takes all.
 fn all_of(bytes: &[u8]) -> Trial<'_> {
@@ -56,28 +45,31 @@ fn all_of(bytes: &[u8]) -> Trial<'_> {
     }
 }
 
-/// Serves it.
-fn tried<R: Wait>(rt: &R, alloc: Global, trial: Trial) -> Outcome {
+/// This comes of the session, in the case that is named.
+fn assert_served<R: Wait + Abort + AllocGlobal, C: Debug + Copy>(
+    rt: &R,
+    trial: Trial,
+    want: Outcome,
+    at: C,
+) {
     let mut reader = Pieces {
         rest: trial.bytes,
         size: trial.piece,
         fails: trial.reader_fails,
     };
     let mut writer = Taker {
-        taken: Vec::new(alloc),
+        taken: Vec::new(rt.alloc()),
         size: trial.write,
         left: trial.room,
         fails: trial.writer_fails,
         holds: false,
     };
     let mut clerk = Morning::new();
-    let served = serve(rt, alloc, &mut reader, &mut writer, &mut clerk, trial.turns);
-    Outcome {
-        served,
-        taken: writer.taken,
-        touches: clerk.touches,
-        enquiries: clerk.enquiries,
-    }
+    let turns = trial.turns;
+    let served = serve(rt, rt.alloc(), &mut reader, &mut writer, &mut clerk, turns);
+    let taken = writer.taken.as_slice();
+    let found = (served, taken, clerk.touches, clerk.enquiries);
+    assert_same_at(rt, found, want, at);
 }
 
 /// What was served.
@@ -91,129 +83,66 @@ fn served(requests: u64, answers: u64, end: End) -> Served {
 
 #[test]
 fn each_request_is_answered_however_its_bytes_come(rt: HostRuntime) -> Result<(), Fail> {
-    let stream = joined(rt.alloc(), &FRAMES)?;
+    let stream = joined(rt.alloc(), &FRAMES[..MORNING])?;
     let answers = joined(rt.alloc(), &ANSWERS)?;
     for piece in [1, 2, 7, 18, 100, 512] {
         for write in [1, 21, 22, 512] {
             let mut trial = all_of(&stream);
             trial.piece = piece;
             trial.write = write;
-            let outcome = tried(&rt, rt.alloc(), trial);
-            let want = (served(5, 5, End::Closed), answers.as_slice(), 4);
-            assert_same_at(&rt, outcome.told(), want, (piece, write));
-            assert_same(&rt, outcome.enquiries, 1);
+            let want = (served(5, 5, End::Closed), answers.as_slice(), 4, 1);
+            assert_served(&rt, trial, want, (piece, write));
         }
     }
     Ok(())
 }
 
+// It is closed between frames. Inside a frame it is cut, and gets no answer for the beginning.
 #[test]
-fn an_input_that_ends_between_frames_is_closed(rt: HostRuntime) {
-    let cases: [(&[u8], (Served, &[u8], usize)); 2] = [
-        (b"", (served(0, 0, End::Closed), b"", 0)),
-        (FRAMES[0], (served(1, 1, End::Closed), ANSWERS[0], 1)),
-    ];
-    for (bytes, want) in &cases {
-        let outcome = tried(&rt, rt.alloc(), all_of(bytes));
-        assert_same_at(&rt, outcome.told(), *want, *bytes);
+fn an_input_may_end_between_frames(rt: HostRuntime) {
+    for size in 0..=17usize {
+        let trial = all_of(FRAMES[0].get(..size).unwrap_or(b""));
+        let want = match size {
+            0 => (served(0, 0, End::Closed), b"".as_slice(), 0, 0),
+            17 => (served(1, 1, End::Closed), ANSWERS[0], 1, 0),
+            _ => (served(0, 0, End::CutFrame), b"".as_slice(), 0, 0),
+        };
+        assert_served(&rt, trial, want, size);
     }
 }
 
 #[test]
-fn an_input_that_ends_inside_a_frame_gets_no_answer_for_it(rt: HostRuntime) {
-    for size in 1..17usize {
-        let outcome = tried(
-            &rt,
-            rt.alloc(),
-            all_of(FRAMES[0].get(..size).unwrap_or(b"")),
-        );
-        let want = (served(0, 0, End::CutFrame), b"".as_slice(), 0);
-        assert_same_at(&rt, outcome.told(), want, size);
-    }
-}
-
-#[test]
-fn bytes_that_begin_no_request_get_the_fault_of_a_bad_frame(rt: HostRuntime) {
+fn bytes_that_begin_no_request_are_the_last_that_are_answered(rt: HostRuntime) -> Result<(), Fail> {
     let cases: [&[u8]; 3] = [b"\x00\x11\x06", b"\x01", ANSWERS[0]];
-    for bytes in &cases {
-        let outcome = tried(&rt, rt.alloc(), all_of(bytes));
-        let want = (served(0, 1, End::BadFrame), BAD_FRAME, 0);
-        assert_same_at(&rt, outcome.told(), want, *bytes);
+    for bytes in cases {
+        let want = (served(0, 1, End::BadFrame), BAD_FRAME, 0, 0);
+        assert_served(&rt, all_of(bytes), want, bytes);
     }
-}
-
-#[test]
-fn a_bad_frame_is_the_last_that_is_answered(rt: HostRuntime) -> Result<(), Fail> {
     let stream = joined(rt.alloc(), &[FRAMES[0], b"\x00\x11\x06", FRAMES[1]])?;
-    let outcome = tried(&rt, rt.alloc(), all_of(&stream));
     let answers = joined(rt.alloc(), &[ANSWERS[0], BAD_FRAME])?;
-    let want = (served(1, 2, End::BadFrame), answers.as_slice(), 1);
-    assert_same(&rt, outcome.told(), want);
+    let want = (served(1, 2, End::BadFrame), answers.as_slice(), 1, 0);
+    assert_served(&rt, all_of(&stream), want, "behind a frame");
     Ok(())
 }
 
 #[test]
-fn a_session_makes_no_more_reads_than_it_is_given(rt: HostRuntime) -> Result<(), Fail> {
-    let cases = [
-        (0, served(0, 0, End::Turns)),
-        (1, served(0, 0, End::Turns)),
-        (17, served(1, 1, End::Turns)),
-        (18, served(1, 1, End::Closed)),
-    ];
-    for (turns, want) in cases {
+fn a_session_makes_no_more_reads_than_it_is_given(rt: HostRuntime) {
+    for (turns, count, end) in [
+        (0, 0, End::Turns),
+        (1, 0, End::Turns),
+        (17, 1, End::Turns),
+        (18, 1, End::Closed),
+    ] {
         let mut trial = all_of(FRAMES[0]);
         trial.piece = 1;
         trial.turns = turns;
-        let outcome = tried(&rt, rt.alloc(), trial);
-        assert_same_at(&rt, outcome.served, want, turns);
+        let answered = match count {
+            0 => b"".as_slice(),
+            _ => ANSWERS[0],
+        };
+        let want = (served(count, count, end), answered, count as usize, 0);
+        assert_served(&rt, trial, want, turns);
     }
-    Ok(())
-}
-
-#[test]
-fn no_request_is_handed_over_after_a_failed_write(rt: HostRuntime) -> Result<(), Fail> {
-    let stream = joined(rt.alloc(), &FRAMES[..2])?;
-    let mut trial = all_of(&stream);
-    trial.room = 7;
-    trial.writer_fails = true;
-    let outcome = tried(&rt, rt.alloc(), trial);
-    let beginning = ANSWERS[0].get(..7).ok_or("a short answer")?;
-    let want = (served(1, 0, End::WriteFault), beginning, 1);
-    assert_same(&rt, outcome.told(), want);
-    Ok(())
-}
-
-#[test]
-fn a_writer_that_takes_nothing_has_failed(rt: HostRuntime) -> Result<(), Fail> {
-    let stream = joined(rt.alloc(), &FRAMES[..2])?;
-    let mut trial = all_of(&stream);
-    trial.room = 0;
-    let outcome = tried(&rt, rt.alloc(), trial);
-    let want = (served(1, 0, End::WriteFault), b"".as_slice(), 1);
-    assert_same(&rt, outcome.told(), want);
-    Ok(())
-}
-
-#[test]
-fn a_writer_that_takes_a_byte_at_a_time_gets_all(rt: HostRuntime) -> Result<(), Fail> {
-    let stream = joined(rt.alloc(), &FRAMES[..2])?;
-    let mut trial = all_of(&stream);
-    trial.write = 1;
-    let outcome = tried(&rt, rt.alloc(), trial);
-    let answers = joined(rt.alloc(), &ANSWERS[..2])?;
-    let want = (served(2, 2, End::Closed), answers.as_slice(), 2);
-    assert_same(&rt, outcome.told(), want);
-    Ok(())
-}
-
-#[test]
-fn a_read_that_fails_leaves_the_answers_before_it(rt: HostRuntime) -> Result<(), Fail> {
-    let mut trial = all_of(FRAMES[0]);
-    trial.reader_fails = true;
-    let outcome = tried(&rt, rt.alloc(), trial);
-    let want = (served(1, 1, End::ReadFault), ANSWERS[0], 1);
-    assert_same(&rt, outcome.told(), want);
-    Ok(())
 }
 
 #[test]
@@ -225,15 +154,11 @@ fn each_write_of_a_morning_fails_in_turn(rt: HostRuntime) -> Result<(), Fail> {
             let mut trial = all_of(&stream);
             trial.room = room;
             trial.writer_fails = writer_fails;
-            let outcome = tried(&rt, rt.alloc(), trial);
-            let whole = (room / 22) as u64;
+            let whole = room / 22;
+            let ended = served(whole as u64 + 1, whole as u64, End::WriteFault);
             let beginning = answers.get(..room).unwrap_or(b"too few");
-            let want = (
-                served(whole + 1, whole, End::WriteFault),
-                beginning,
-                room / 22 + 1,
-            );
-            assert_same_at(&rt, outcome.told(), want, room);
+            let want = (ended, beginning, whole + 1, 0);
+            assert_served(&rt, trial, want, (room, writer_fails));
         }
     }
     Ok(())
@@ -243,21 +168,20 @@ fn each_write_of_a_morning_fails_in_turn(rt: HostRuntime) -> Result<(), Fail> {
 fn each_read_of_a_morning_fails_in_turn(rt: HostRuntime) -> Result<(), Fail> {
     let stream = joined(rt.alloc(), &FRAMES[..4])?;
     let answers = joined(rt.alloc(), &ANSWERS[..4])?;
-    let ends = [17, 38, 57, 76];
     for cut in 0..=76usize {
         let mut trial = all_of(stream.get(..cut).unwrap_or(b""));
         trial.reader_fails = true;
-        let outcome = tried(&rt, rt.alloc(), trial);
-        let whole = ends.iter().filter(|end| **end <= cut).count();
-        let taken = answers
-            .get(..whole.saturating_mul(22))
-            .unwrap_or(b"too few");
-        let want = (
-            served(whole as u64, whole as u64, End::ReadFault),
-            taken,
-            whole,
-        );
-        assert_same_at(&rt, outcome.told(), want, cut);
+        // The frames end at these bytes.
+        let whole: usize = match cut {
+            0..17 => 0,
+            17..38 => 1,
+            38..57 => 2,
+            57..76 => 3,
+            _ => 4,
+        };
+        let taken = answers.get(..22 * whole).unwrap_or(b"too few");
+        let ended = served(whole as u64, whole as u64, End::ReadFault);
+        assert_served(&rt, trial, (ended, taken, whole, 0), cut);
     }
     Ok(())
 }
@@ -265,19 +189,20 @@ fn each_read_of_a_morning_fails_in_turn(rt: HostRuntime) -> Result<(), Fail> {
 #[test]
 fn the_answer_to_a_bad_frame_can_be_cut_short(rt: HostRuntime) -> Result<(), Fail> {
     let stream = joined(rt.alloc(), &[FRAMES[0], b"\x00\x11\x06"])?;
+    let answers = joined(rt.alloc(), &[ANSWERS[0], BAD_FRAME])?;
     for room in 22..32usize {
         let mut trial = all_of(&stream);
         trial.room = room;
         trial.writer_fails = true;
-        let outcome = tried(&rt, rt.alloc(), trial);
-        assert_same_at(&rt, outcome.served, served(1, 1, End::WriteFault), room);
-        assert_same(&rt, outcome.taken.len(), room);
+        let taken = answers.get(..room).unwrap_or(b"too few");
+        let want = (served(1, 1, End::WriteFault), taken, 1, 0);
+        assert_served(&rt, trial, want, room);
     }
     Ok(())
 }
 
 #[test]
-fn a_lost_answer_is_had_by_a_repeat(rt: HostRuntime) -> Result<(), Fail> {
+fn a_lost_answer_is_had_by_a_repeat(rt: HostRuntime) {
     let mut clerk = Morning::new();
     let mut reader = FRAMES[2];
     let mut full: [u8; 0] = [];
@@ -290,11 +215,10 @@ fn a_lost_answer_is_had_by_a_repeat(rt: HostRuntime) -> Result<(), Fail> {
     let had = serve(&rt, rt.alloc(), &mut again, &mut written, &mut clerk, 10);
     assert_same(&rt, had, served(1, 1, End::Closed));
     assert_same(&rt, written.as_slice(), ANSWERS[2]);
-    Ok(())
 }
 
 #[test]
-fn a_request_is_answered_before_the_next_is_read(rt: HostRuntime) -> Result<(), AllocError> {
+fn a_request_is_answered_before_the_next_is_read(rt: HostRuntime) {
     let written = Cell::new(0);
     let mut reader = Patient {
         frames: &FRAMES[..4],
@@ -306,5 +230,4 @@ fn a_request_is_answered_before_the_next_is_read(rt: HostRuntime) -> Result<(), 
     let end = serve(&rt, rt.alloc(), &mut reader, &mut writer, &mut clerk, 10);
     assert_same(&rt, end, served(4, 4, End::Closed));
     assert_same(&rt, written.get(), 88);
-    Ok(())
 }

@@ -4,16 +4,22 @@ use gate_session::Request;
 use oyster_account::{Act, Touch};
 
 /// A card's first morning: issued, topped up by 2000 pence, in at station 2, out at station 1, and
-/// then an enquiry.
-pub const FRAMES: [&[u8]; 5] = [
+/// then an enquiry. Behind it the longest request: the revision of fares from day 20095 on, of
+/// gate 7 and number 6.
+pub const FRAMES: [&[u8]; 6] = [
     b"\x00\x0f\x04\x00\x07\x00\x00\x00\x01\x00\x00\x00\x01\x67\x7b\x8b\x28",
     b"\x00\x13\x03\x00\x07\x00\x00\x00\x02\x00\x00\x00\x01\x00\x00\x07\xd0\x67\x7b\x8c\x54",
     b"\x00\x11\x01\x00\x07\x00\x00\x00\x03\x00\x00\x00\x01\x00\x02\x67\x7b\x8d\x80",
     b"\x00\x11\x02\x00\x07\x00\x00\x00\x04\x00\x00\x00\x01\x00\x01\x67\x7b\x93\x5c",
     b"\x00\x05\x05\x00\x00\x00\x01",
+    b"\x00\x33\x06\x00\x07\x00\x00\x00\x06\x00\x00\x00\x00\
+    0123456789abcdef0123456789abcdef\x00\x00\x4e\x7f\x67\x7b\x8d\x80",
 ];
 
-/// The answers to the frames of a card's first morning, and to the enquiry behind them.
+/// The frames of the morning, without the revision.
+pub const MORNING: usize = 5;
+
+/// The answers to the frames of the morning.
 pub const ANSWERS: [&[u8]; 5] = [
     b"\x00\x14\x81\x00\x07\x00\x00\x00\x01\x08\x00\x00\x00\x00\x00\x00\x00\x00\x00\x00\x00\x00",
     b"\x00\x14\x81\x00\x07\x00\x00\x00\x02\x07\x00\x00\x07\xd0\x00\x00\x00\x00\x00\x00\x07\xd0",
@@ -36,7 +42,7 @@ fn touch(number: u32, act: Act) -> Request {
 }
 
 /// The requests of `FRAMES`.
-pub fn requests() -> [Request; 5] {
+pub fn requests() -> [Request; 6] {
     [
         touch(1, Act::Issue { moment: 1736149800 }),
         touch(
@@ -61,23 +67,15 @@ pub fn requests() -> [Request; 5] {
             },
         ),
         Request::Enquire(1),
+        Request::Touch(Touch {
+            gate: 7,
+            number: 6,
+            card: 0,
+            act: Act::Revise {
+                digest: *b"0123456789abcdef0123456789abcdef",
+                day: 20_095,
+                moment: 1_736_150_400,
+            },
+        }),
     ]
-}
-
-/// The revision of fares from day 20095 on, of gate 7 and number 6: the longest request.
-pub const REVISION: &[u8] = b"\x00\x33\x06\x00\x07\x00\x00\x00\x06\x00\x00\x00\x00\
-    0123456789abcdef0123456789abcdef\x00\x00\x4e\x7f\x67\x7b\x8d\x80";
-
-/// The request of `REVISION`.
-pub fn revision() -> Request {
-    Request::Touch(Touch {
-        gate: 7,
-        number: 6,
-        card: 0,
-        act: Act::Revise {
-            digest: *b"0123456789abcdef0123456789abcdef",
-            day: 20_095,
-            moment: 1_736_150_400,
-        },
-    })
 }

@@ -17,39 +17,65 @@ const IN: u8 = 1;
 
 const OUT: u8 = 2;
 
-/// A touch of the card at a station, and its reply.
-#[derive(Clone, Copy)]
-struct Passing {
-    kind: u8,
-    station: u16,
-    /// The time of the day.
-    hour: u32,
-    minute: u32,
-    second: u32,
-    verdict: u8,
-    change: i32,
-    balance: i64,
-}
+/// A touch of the card, and its reply: its kind and station, the time of the day, and the verdict,
+/// change and balance.
+type Passing = ((u8, u16), (u32, u32, u32), (u8, i32, i64));
 
-/// A touch on the minute, and its reply.
-fn on_minute(
-    (kind, station): (u8, u16),
-    (hour, minute): (u32, u32),
-    verdict: u8,
-    change: i32,
-    balance: i64,
-) -> Passing {
-    Passing {
-        kind,
-        station,
-        hour,
-        minute,
-        second: 0,
-        verdict,
-        change,
-        balance,
-    }
-}
+/// Out of town in the evening: off-peak.
+const OUT_OF_TOWN: [Passing; 2] = [
+    ((IN, 3), (17, 0, 0), (1, -900, 1100)),
+    ((OUT, 1), (17, 40, 0), (4, 590, 1690)),
+];
+
+const INTO_TOWN: [Passing; 2] = [
+    ((IN, 1), (17, 0, 0), (1, -900, 1100)),
+    ((OUT, 3), (17, 40, 0), (4, 500, 1600)),
+];
+
+/// Three journeys from 2 to 1, of which the third is capped. A fourth costs nothing, and no refund
+/// of it is taken back: out again with no touch in.
+const WEEKDAY: [Passing; 9] = [
+    ((IN, 2), (6, 40, 0), (1, -900, 1100)),
+    ((OUT, 1), (7, 5, 0), (4, 550, 1650)),
+    ((IN, 2), (7, 40, 0), (1, -900, 750)),
+    ((OUT, 1), (8, 5, 0), (4, 550, 1300)),
+    ((IN, 2), (8, 40, 0), (1, -900, 400)),
+    ((OUT, 1), (9, 5, 0), (4, 750, 1150)),
+    ((IN, 2), (10, 0, 0), (1, -700, 450)),
+    ((OUT, 1), (10, 25, 0), (4, 700, 1150)),
+    ((OUT, 1), (10, 30, 0), (5, -700, 450)),
+];
+
+const WEEKEND: [Passing; 6] = [
+    ((IN, 2), (6, 40, 0), (1, -700, 1300)),
+    ((OUT, 1), (7, 5, 0), (4, 410, 1710)),
+    ((IN, 2), (7, 40, 0), (1, -700, 1010)),
+    ((OUT, 1), (8, 5, 0), (4, 410, 1420)),
+    ((IN, 2), (8, 40, 0), (1, -700, 720)),
+    ((OUT, 1), (9, 5, 0), (4, 680, 1400)),
+];
+
+/// In again within ten minutes, and a second later.
+const AFTER_EIGHT: [Passing; 4] = [
+    ((IN, 2), (8, 0, 0), (1, -900, 1100)),
+    ((OUT, 1), (8, 25, 0), (4, 550, 1650)),
+    ((IN, 4), (8, 33, 0), (2, -900, 750)),
+    ((OUT, 3), (9, 0, 0), (4, 1010, 1760)),
+];
+
+const AFTER_TEN: [Passing; 4] = [
+    ((IN, 2), (8, 0, 0), (1, -900, 1100)),
+    ((OUT, 1), (8, 25, 0), (4, 550, 1650)),
+    ((IN, 4), (8, 35, 0), (2, -900, 750)),
+    ((OUT, 3), (9, 0, 0), (4, 1010, 1760)),
+];
+
+const TOO_LATE: [Passing; 4] = [
+    ((IN, 2), (8, 0, 0), (1, -900, 1100)),
+    ((OUT, 1), (8, 25, 0), (4, 550, 1650)),
+    ((IN, 4), (8, 35, 1), (1, -900, 750)),
+    ((OUT, 3), (9, 0, 0), (4, 500, 1250)),
+];
 
 /// The lines in and the lines out of a day: the card is issued with 2000 pence at 00:01, and then
 /// makes these steps.
@@ -62,16 +88,11 @@ fn lines(alloc: Global, day: u32, steps: &[Passing]) -> Result<(String, String),
     answered.push_str("00148100010000000108000000000000000000000000\n")?;
     answered.push_str("00148100010000000207000007d000000000000007d0\n")?;
     let mut number: u32 = 2;
-    for step in steps {
+    for ((kind, station), (hour, minute, second), (verdict, change, balance)) in steps {
         number = number.saturating_add(1);
-        let minutes = step.hour.saturating_mul(60).saturating_add(step.minute);
-        let seconds = minutes.saturating_mul(60).saturating_add(step.second);
+        let minutes = hour.saturating_mul(60).saturating_add(*minute);
+        let seconds = minutes.saturating_mul(60).saturating_add(*second);
         let moment = day.saturating_add(seconds);
-        let kind = step.kind;
-        let station = step.station;
-        let verdict = step.verdict;
-        let change = step.change;
-        let balance = step.balance;
         let line = format!(in alloc;
             "0011{kind:02x}0001{number:08x}00000001{station:04x}{moment:08x}\n"
         )?;
@@ -89,81 +110,46 @@ fn check<R: Abort + AllocGlobal>(
     rt: &R,
     day: u32,
     steps: &[Passing],
-    told: &str,
+    at: &str,
 ) -> Result<(), Fail> {
-    let alloc = rt.alloc();
-    let (asked, answered) = lines(alloc, day, steps)?;
-    assert_replayed(rt, asked.as_bytes(), Ok(()), answered.as_bytes(), told)
-}
-
-/// The weekday of three journeys from 2 to 1.
-fn three_journeys() -> [Passing; 6] {
-    [
-        on_minute((IN, 2), (6, 40), 1, -900, 1100),
-        on_minute((OUT, 1), (7, 5), 4, 550, 1650),
-        on_minute((IN, 2), (7, 40), 1, -900, 750),
-        on_minute((OUT, 1), (8, 5), 4, 550, 1300),
-        on_minute((IN, 2), (8, 40), 1, -900, 400),
-        on_minute((OUT, 1), (9, 5), 4, 750, 1150),
-    ]
+    let (asked, answered) = lines(rt.alloc(), day, steps)?;
+    let lines = (asked.as_bytes(), false);
+    assert_replayed(rt, lines, Ok(()), answered.as_bytes(), at)
 }
 
 #[test]
-fn an_evening_journey_out_of_town_is_off_peak_and_one_into_town_is_not(
-    rt: HostRuntime,
-) -> Result<(), Fail> {
-    let out_of_town = [
-        on_minute((IN, 3), (17, 0), 1, -900, 1100),
-        on_minute((OUT, 1), (17, 40), 4, 590, 1690),
+fn worked_journeys_get_their_answers(rt: HostRuntime) -> Result<(), Fail> {
+    let rows: [(u32, &[Passing], &str); 7] = [
+        (
+            MONDAY,
+            &OUT_OF_TOWN,
+            "an evening journey out of town is off-peak",
+        ),
+        (MONDAY, &INTO_TOWN, "an evening journey into town is not"),
+        (
+            MONDAY,
+            &WEEKDAY,
+            "a third journey is capped, and a refund never takes",
+        ),
+        (
+            SATURDAY,
+            &WEEKEND,
+            "a third journey of a Saturday is capped",
+        ),
+        (
+            MONDAY,
+            &AFTER_EIGHT,
+            "in after eight minutes continues the journey",
+        ),
+        (
+            MONDAY,
+            &AFTER_TEN,
+            "in after ten minutes continues the journey",
+        ),
+        (MONDAY, &TOO_LATE, "in a second later begins another"),
     ];
-    check(&rt, MONDAY, &out_of_town, "3 to 1")?;
-    let into_town = [
-        on_minute((IN, 1), (17, 0), 1, -900, 1100),
-        on_minute((OUT, 3), (17, 40), 4, 500, 1600),
-    ];
-    check(&rt, MONDAY, &into_town, "1 to 3")
-}
-
-#[test]
-fn a_third_journey_is_capped(rt: HostRuntime) -> Result<(), Fail> {
-    check(&rt, MONDAY, &three_journeys(), "Monday")?;
-    let saturday = [
-        on_minute((IN, 2), (6, 40), 1, -700, 1300),
-        on_minute((OUT, 1), (7, 5), 4, 410, 1710),
-        on_minute((IN, 2), (7, 40), 1, -700, 1010),
-        on_minute((OUT, 1), (8, 5), 4, 410, 1420),
-        on_minute((IN, 2), (8, 40), 1, -700, 720),
-        on_minute((OUT, 1), (9, 5), 4, 680, 1400),
-    ];
-    check(&rt, SATURDAY, &saturday, "Saturday")
-}
-
-#[test]
-fn a_change_within_ten_minutes_continues_the_journey(rt: HostRuntime) -> Result<(), Fail> {
-    for (minute, second, verdict, change, balance) in [
-        (33, 0, 2, 1010, 1760),
-        (35, 0, 2, 1010, 1760),
-        (35, 1, 1, 500, 1250),
-    ] {
-        let mut entry = on_minute((IN, 4), (8, minute), verdict, -900, 750);
-        entry.second = second;
-        let steps = [
-            on_minute((IN, 2), (8, 0), 1, -900, 1100),
-            on_minute((OUT, 1), (8, 25), 4, 550, 1650),
-            entry,
-            on_minute((OUT, 3), (9, 0), 4, change, balance),
-        ];
-        let told = format!(in rt.alloc(); "in at 08:{minute}:{second}")?;
-        check(&rt, MONDAY, &steps, told.as_str())?;
+    for (day, steps, at) in rows {
+        check(&rt, day, steps, at)?;
     }
     Ok(())
-}
-
-#[test]
-fn a_refund_never_takes(rt: HostRuntime) -> Result<(), Fail> {
-    let mut steps = three_journeys().to_vec(rt.alloc())?;
-    steps.push(on_minute((IN, 2), (10, 0), 1, -700, 450))?;
-    steps.push(on_minute((OUT, 1), (10, 25), 4, 700, 1150))?;
-    steps.push(on_minute((OUT, 1), (10, 30), 5, -700, 450))?;
-    check(&rt, MONDAY, steps.as_slice(), "after the third journey")
 }

@@ -1,7 +1,8 @@
 //! A replay that is refused memory.
 
-use super::assert_same_at;
-use super::revision::{both, revised_lines};
+use super::rows::{FIRST_PATH, REVISION};
+use super::tables::both;
+use super::{assert_same_at, lines_of};
 use line_replay::{ReplayFault, replay_text};
 use reply_book::NameHashing;
 use std::alloc::Global;
@@ -16,8 +17,8 @@ const TRIES: u32 = 10;
 /// How the replay of the worked revision ends, whose answers stand as far as they were written.
 /// There is none where there was no memory for what it is given.
 fn attempt(rt: &impl Abort, alloc: Global) -> Option<Result<(), ReplayFault>> {
-    let asked = revised_lines(alloc, false).ok()?;
-    let answered = revised_lines(alloc, true).ok()?;
+    let asked = lines_of(alloc, &[&FIRST_PATH, &REVISION], false).ok()?;
+    let answered = lines_of(alloc, &[&FIRST_PATH, &REVISION], true).ok()?;
     let schedule = both(alloc)?;
     let mut room = Cursor::new([0; 1024]);
     let ended = replay_text(

@@ -4,7 +4,7 @@ ghost use Rattle.std.specs.Prelude.{◌≡◌, ◌<◌, length, []};
 ghost use Rattle.fare_schedule.specs.Schedule.{revisions_of};
 ghost use Rattle.reply_book.specs.Book.{entries_of, Stands};
 
-use super::revised::{REVISED_DIGEST, REVISED_TABLE};
+use super::revised::REVISED_DIGEST;
 use super::rows::touch;
 use super::*;
 use oyster_account::Act;
@@ -35,87 +35,6 @@ const fn revision_row(number: u32, day: i32, verdict: u8) -> Row {
         reply(verdict, 0, 0),
         view(CardState::Vacant, 0),
     )
-}
-
-/// Supplies the revised table. Where one allocation is refused, the second call meets none.
-fn supply(rt: &impl Abort, alloc: Global, schedule: &mut Schedule)
-    ensures { revisions_of schedule.new ≡ revisions_of schedule.old }
-{
-    if schedule.supply(table(rt, alloc, REVISED_TABLE)).is_err() {
-        let supplied = schedule.supply(table(rt, alloc, REVISED_TABLE));
-        supplied.expect(rt, "the second call meets no refusal");
-    }
-}
-
-/// The example table, and the revised one beside it.
-fn both_tables(rt: &impl Abort, alloc: Global) -> Schedule
-    ensures { revisions_of result ≡ [] }
-{
-    let mut schedule = example_schedule(rt, alloc);
-    supply(rt, alloc, &mut schedule);
-    schedule
-}
-
-/// A book of ten cards and of both tables. Where one allocation is refused, the second call meets
-/// none.
-fn book_of_both(rt: &impl Abort, alloc: Global) -> Book
-    ensures entries { length (entries_of result) ≡ 0 }
-    ensures stands { Stands result }
-{
-    if let Ok(book) = Book::new(alloc, NameHashing::fixed(), 10, both_tables(rt, alloc)) {
-        return book;
-    }
-    let book = Book::new(alloc, NameHashing::fixed(), 10, both_tables(rt, alloc));
-    book.expect(rt, "the second call meets no refusal")
-}
-
-/// The book of these touches, of ten cards and of both tables. Where one allocation is refused, the
-/// second call meets none.
-fn replayed_of_both(rt: &impl Abort, alloc: Global, touches: &[Touch]) -> Book
-    requires { length touches.now < 100 }
-{
-    let made = match Book::replay(
-        alloc,
-        NameHashing::fixed(),
-        10,
-        both_tables(rt, alloc),
-        touches,
-    ) {
-        Err(ReplayFault::Memory) => Book::replay(
-            alloc,
-            NameHashing::fixed(),
-            10,
-            both_tables(rt, alloc),
-            touches,
-        ),
-        made => made,
-    };
-    made.expect(rt, "a book")
-}
-
-/// Adds three revisions: of a day that has travel, of the day after it, and of that day again.
-fn add_revisions(rt: &impl Abort, book: &mut Book)
-    requires few { length (entries_of book.old) < 10 }
-    requires stands { Stands book.old }
-    ensures few { length (entries_of book.new) < 20 }
-    ensures stands { Stands book.new }
-{
-    enter_one(rt, book, revision_row(5, 20094, 27));
-    enter_one(rt, book, revision_row(6, 20095, 9));
-    add_one(rt, book, revision_row(7, 20095, 27));
-}
-
-/// Adds the journeys of the fare day before the revision, and of its own.
-fn add_journeys(rt: &impl Abort, book: &mut Book)
-    requires few { length (entries_of book.old) < 20 }
-    requires stands { Stands book.old }
-{
-    let [enter, leave] = earlier_journey();
-    add_one(rt, book, enter);
-    add_one(rt, book, leave);
-    let [enter, leave] = later_journey();
-    add_one(rt, book, enter);
-    add_one(rt, book, leave);
 }
 
 /// A journey of the fare day before the revision.
@@ -188,27 +107,51 @@ fn assert_makes_room(rt: &impl Abort, book: &mut Book, revision: &Touch, unknown
 
 #[test]
 fn a_revised_fare_counts_from_its_day(rt: HostRuntime) {
-    let mut book = book_of_both(&rt, rt.alloc());
+    let mut book = empty_book(&rt, rt.alloc(), true);
     add_first(&rt, &mut book);
-    add_revisions(&rt, &mut book);
-    add_journeys(&rt, &mut book);
+    // Of a day that has travel, of the day after it, and of that day again.
+    enter_one(&rt, &mut book, revision_row(5, 20094, 27));
+    enter_one(&rt, &mut book, revision_row(6, 20095, 9));
+    add_one(&rt, &mut book, revision_row(7, 20095, 27));
+    let [enter, leave] = earlier_journey();
+    add_one(&rt, &mut book, enter);
+    add_one(&rt, &mut book, leave);
+    let [enter, leave] = later_journey();
+    add_one(&rt, &mut book, enter);
+    add_one(&rt, &mut book, leave);
     drop(book);
 }
 
 #[test]
-fn a_table_that_is_missing_is_told_by_its_place(rt: HostRuntime) {
+fn touches_of_no_book_are_told_by_their_place(rt: HostRuntime) {
     let [first, second, third, fourth] = first_touches();
+    let missing = revise(6, 20095);
     let rows = [
+        // A repeat.
+        (
+            [first, second, third, fourth, first],
+            ReplayFault::Repeated(4),
+        ),
+        (
+            [first, second, third, fourth, leave(4, 3)],
+            ReplayFault::Repeated(4),
+        ),
+        (
+            [first, second, first, fourth, second],
+            ReplayFault::Repeated(2),
+        ),
+        // A table that is missing.
         (
             [first, second, third, fourth, revise(5, 20094)],
             ReplayFault::MissingTable(4),
         ),
         (
-            [first, revise(6, 20095), third, fourth, first],
+            [first, missing, third, fourth, first],
             ReplayFault::MissingTable(1),
         ),
+        // Whichever comes first.
         (
-            [first, second, first, fourth, revise(6, 20095)],
+            [first, second, first, fourth, missing],
             ReplayFault::Repeated(2),
         ),
         (
@@ -216,12 +159,36 @@ fn a_table_that_is_missing_is_told_by_its_place(rt: HostRuntime) {
             ReplayFault::Repeated(4),
         ),
     ];
-    assert_told(&rt, rt.alloc(), &rows);
+    for (touches, fault) in rows {
+        let told = replayed(&rt, rt.alloc(), false, &touches).err();
+        assert_same(&rt, told, Some(fault));
+    }
+}
+
+/// That the book of these touches, the first four of which are the first example, is made of such
+/// tables, and that in it these touches are found so.
+fn assert_made(
+    rt: &impl Abort,
+    alloc: Global,
+    revised: bool,
+    touches: &[Touch],
+    rows: &[(Touch, Found)],
+)
+    requires { length touches.now < 100 }
+{
+    let book = replayed(rt, alloc, revised, touches).expect(rt, "a book");
+    assert_count(rt, &book, touches.len() as u32);
+    assert_entries(rt, &book, &first_example());
+    assert_seen(rt, &book, &[(1, view(CardState::Outside, 1650))]);
+    assert_finds(rt, &book, rows);
+    drop(book);
 }
 
 #[test]
-fn a_book_is_made_of_its_revisions(rt: HostRuntime) {
-    let [first, second, third, fourth] = first_touches();
+fn a_book_is_made_of_its_touches_and_revisions(rt: HostRuntime) {
+    let touches = first_touches();
+    assert_made(&rt, rt.alloc(), false, &touches, &[]);
+    let [first, second, third, fourth] = touches;
     let touches = [
         first,
         second,
@@ -230,38 +197,30 @@ fn a_book_is_made_of_its_revisions(rt: HostRuntime) {
         revise(5, 20094),
         revise(6, 20095),
     ];
-    let book = replayed_of_both(&rt, rt.alloc(), &touches);
-    assert_count(&rt, &book, 6);
     let rows = [
         (revise(5, 20094), Found::First(4, reply(27, 0, 0))),
         (revise(6, 20095), Found::First(5, reply(9, 0, 0))),
         (revise(6, 20096), Found::Conflict),
     ];
-    assert_finds(&rt, &book, &rows);
-    drop(book);
-}
-
-/// Whether the book has the table that a touch is judged by.
-fn assert_knows(rt: &impl Abort, book: &Book, touch: &Touch, is_known: bool) {
-    assert_same(rt, book.knows(touch), is_known);
+    assert_made(&rt, rt.alloc(), true, &touches, &rows);
 }
 
 #[test]
-fn a_table_that_is_there_is_known(rt: HostRuntime) {
-    let book = book_of_both(&rt, rt.alloc());
-    assert_knows(&rt, &book, &revise(1, 20095), true);
-    assert_knows(&rt, &book, &revise_to(1, [0; 32], 20095), false);
-    assert_knows(&rt, &book, &leave(1, 1), true);
-    drop(book);
-    let book = empty_book(&rt, rt.alloc());
-    assert_knows(&rt, &book, &revise(1, 20095), false);
-    drop(book);
-}
-
-#[test]
-fn room_is_made_for_a_revision(rt: HostRuntime) {
-    let mut book = book_of_both(&rt, rt.alloc());
+fn a_book_knows_its_tables_and_makes_room_for_a_revision(rt: HostRuntime) {
+    let mut book = empty_book(&rt, rt.alloc(), true);
+    let revision = revise(1, 20095);
     let unknown = revise_to(2, [0; 32], 20095);
-    assert_makes_room(&rt, &mut book, &revise(1, 20095), &unknown);
+    assert_same(&rt, book.knows(&revision), true);
+    assert_same(&rt, book.knows(&unknown), false);
+    assert_same(&rt, book.knows(&leave(1, 1)), true);
+    assert_makes_room(&rt, &mut book, &revision, &unknown);
+    drop(book);
+}
+
+#[test]
+fn a_book_knows_no_other_table_and_makes_room_ahead(rt: HostRuntime) {
+    let mut book = empty_book(&rt, rt.alloc(), false);
+    assert_same(&rt, book.knows(&revise(1, 20095)), false);
+    assert_reserves(&rt, &mut book);
     drop(book);
 }

@@ -88,3 +88,12 @@ pub const fn first_touches() -> [Touch; 4] {
     let [issue, top_up, enter, out] = first_example();
     [issue.0, top_up.0, enter.0, out.0]
 }
+
+/// A touch of no card.
+pub const fn stray() -> Row {
+    let touch = Touch {
+        card: 11,
+        ..leave(5, 1)
+    };
+    (touch, reply(20, 0, 0), view(CardState::Vacant, 0))
+}

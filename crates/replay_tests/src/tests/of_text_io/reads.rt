@@ -1,7 +1,8 @@
 //! Inputs that are read piece by piece, and whole.
 
-use super::assert_same_at;
+use super::{assert_same, assert_same_at};
 use std::alloc::{AllocError, Global};
+use std::process::Abort;
 use std::test::Fail;
 use test_streams::Pieces;
 use text_io::{RunFault, read_all, read_piece};
@@ -19,7 +20,7 @@ fn counted(alloc: Global) -> Result<Vec<u8>, AllocError> {
 
 // The piece has room for three bytes, and a read gives at most two.
 #[test]
-fn one_read_gives_the_beginning_of_a_piece(rt: HostRuntime) -> Result<(), Fail> {
+fn one_read_gives_the_beginning_of_a_piece(rt: HostRuntime) {
     let mut reader = Pieces {
         rest: b"Alder",
         size: 2,
@@ -27,52 +28,55 @@ fn one_read_gives_the_beginning_of_a_piece(rt: HostRuntime) -> Result<(), Fail> 
     };
     for want in ["Al", "de", "r", "", ""] {
         let mut piece = [0; 3];
-        let size = read_piece(&mut reader, &mut piece).ok().ok_or("no fault")?;
-        assert_same_at(&rt, &piece[..size], want.as_bytes(), want);
+        let size = read_piece(&mut reader, &mut piece).unwrap_or(9);
+        assert_same(&rt, piece.get(..size), Some(want.as_bytes()));
     }
-    Ok(())
+}
+
+/// How an input is read: how many bytes a read gives at most, whether the reader fails at its end,
+/// and how many reads are allowed. Then how many bytes are left, and whether the input was read.
+type Reading = (usize, bool, u32, usize, bool);
+
+/// The last read of an input gives no byte. One read gives at most 1,024.
+const READINGS: [Reading; 9] = [
+    (1_000, false, 4, 0, true),
+    (1_000, false, 1_000_000, 0, true),
+    (usize::MAX, false, 4, 0, true),
+    (1, false, 2_501, 0, true),
+    // It fails, or takes too many reads.
+    (1_000, true, 1_000_000, 0, false),
+    (1_000, false, 3, 0, false),
+    (1_000, false, 2, 500, false),
+    (usize::MAX, false, 2, 452, false),
+    (1_000, false, 0, 2_500, false),
+];
+
+/// The bytes are read so.
+fn assert_read(rt: &impl Abort, alloc: Global, bytes: &[u8], reading: Reading) {
+    let (size, fails, turns, left, is_read) = reading;
+    let mut reader = Pieces {
+        rest: bytes,
+        size,
+        fails,
+    };
+    let want = if is_read {
+        Ok(bytes)
+    } else {
+        Err(RunFault::Read)
+    };
+    match read_all(alloc, &mut reader, turns) {
+        Ok(found) => assert_same_at(rt, Ok(found.as_slice()), want, reading),
+        Err(fault) => assert_same_at(rt, Err(fault), want, reading),
+    }
+    assert_same_at(rt, reader.rest.len(), left, reading);
 }
 
 #[test]
-fn an_input_is_read_to_its_end(rt: HostRuntime) -> Result<(), Fail> {
-    let alloc = rt.alloc();
-    let bytes = counted(alloc)?;
-    // The last read gives no byte. One read gives at most 1,024.
-    for (size, turns) in [(1_000, 4), (1_000, 1_000_000), (usize::MAX, 4), (1, 2_501)] {
-        let mut reader = Pieces {
-            rest: bytes.as_slice(),
-            size,
-            fails: false,
-        };
-        let read = read_all(alloc, &mut reader, turns).ok().ok_or("no fault")?;
-        assert_same_at(&rt, read.as_slice(), bytes.as_slice(), size);
-    }
-    let none = read_all(alloc, &mut b"".as_slice(), 1)
-        .ok()
-        .ok_or("no fault")?;
-    assert_same_at(&rt, none.is_empty(), true, "none");
-    Ok(())
-}
-
-#[test]
-fn an_input_that_fails_or_takes_too_many_reads_is_refused(rt: HostRuntime) -> Result<(), Fail> {
-    let alloc = rt.alloc();
-    let bytes = counted(alloc)?;
-    for (size, fails, turns, left) in [
-        (1_000, true, 1_000_000, 0),
-        (1_000, false, 3, 0),
-        (1_000, false, 2, 500),
-        (usize::MAX, false, 2, 452),
-        (1_000, false, 0, 2_500),
-    ] {
-        let mut reader = Pieces {
-            rest: bytes.as_slice(),
-            size,
-            fails,
-        };
-        let fault = read_all(alloc, &mut reader, turns).err();
-        assert_same_at(&rt, fault, Some(RunFault::Read), turns);
-        assert_same_at(&rt, reader.rest.len(), left, turns);
+fn an_input_is_read_to_its_end_or_refused(rt: HostRuntime) -> Result<(), Fail> {
+    assert_read(&rt, rt.alloc(), b"", (1, false, 1, 0, true));
+    let bytes = counted(rt.alloc())?;
+    for reading in READINGS {
+        assert_read(&rt, rt.alloc(), &bytes, reading);
     }
     Ok(())
 }
