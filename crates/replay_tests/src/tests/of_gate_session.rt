@@ -99,7 +99,7 @@ fn take_all(rt: &impl Abort, feed: &mut Feed, want: &[Request], place: usize) ->
 fn a_stream_cut_anywhere_has_the_same_requests(rt: HostRuntime) -> Result<(), Fail> {
     let want = requests();
     let stream = joined(rt.alloc(), &FRAMES)?;
-    assert_same(&rt, stream.len(), 136);
+    assert_eq!(rt; stream.len(), 136);
     for cut in 0..=136usize {
         let (first, second) = stream.split_at(cut);
         let mut feed = Feed::new(rt.alloc());

@@ -46,21 +46,22 @@ fn the_example_is_read_again_where_memory_was_refused(rt: HostRuntime) {
     assert_example(&rt, &fares.ok().expect(&rt, "a table"), "the example");
 }
 
-/// Changes that each make a fault which is told before that of the change before.
-const CHANGES: [Change; 3] = [LOW_MAXIMUM, NO_SINGLE, SIXTH_STATION];
+/// Changes of the example, and the fault of the table. One that is mended leaves the next in order.
+const FAULTS: [(&[Change], TableFault); 3] = [
+    (
+        &[LOW_MAXIMUM, NO_SINGLE, SIXTH_STATION],
+        TableFault::Twice(Key::Station, 6),
+    ),
+    (&[LOW_MAXIMUM, NO_SINGLE], TableFault::MissingSingle(1, 3)),
+    (&[LOW_MAXIMUM], TableFault::MaximumTooLow),
+];
 
 #[test]
 fn a_fault_is_found_again_where_memory_was_refused(rt: HostRuntime) {
     let alloc = rt.alloc();
-    // Faults that are mended one by one are told in their order.
-    for (count, fault) in [
-        (3, TableFault::Twice(Key::Station, 6)),
-        (2, TableFault::MissingSingle(1, 3)),
-        (1, TableFault::MaximumTooLow),
-    ] {
-        let changes = CHANGES.get(..count).unwrap_or(&[]);
-        let text = changed_again(&rt, alloc, changes);
-        assert_fault(&rt, alloc, text.as_str(), fault);
+    for (changes, fault) in FAULTS.as_slice() {
+        let text = changed_again(&rt, alloc, *changes);
+        assert_fault(&rt, alloc, text.as_str(), *fault);
     }
     assert_fault(&rt, alloc, "x =", TableFault::NotToml);
     assert_fault(&rt, alloc, "", TableFault::Missing(Key::Zone, 0));
