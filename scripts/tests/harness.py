@@ -222,7 +222,11 @@ class ProgramTest(unittest.TestCase):
 
 
 def main() -> None:
-    """Runs the tests of the script that was started, and ends with its status."""
+    """Runs the tests of the script that was started, and ends with its status. With --help it prints the script's first
+    lines instead."""
+    if {"-h", "--help"} & {*sys.argv[1:]}:
+        print(sys.modules["__main__"].__doc__)
+        sys.exit()
     tests = unittest.defaultTestLoader.loadTestsFromModule(sys.modules["__main__"])
     if len(sys.argv) > 1:
         tests = unittest.defaultTestLoader.loadTestsFromNames(sys.argv[1:], sys.modules["__main__"])
