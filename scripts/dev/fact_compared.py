@@ -98,12 +98,19 @@ FACTS: dict[str, tuple[Place | Read, list[Place]]] = {
     "the most cards of a station": (
         Place("crates/reply_book/src/book.rt", r"const CARD_LIMIT: u32 = (?P<code>[\d_]+);"), [
             Place("crates/command_line/src/arguments.rt", r"const CARDS_LIMIT: u32 = (?P<code>[\d_]+);"),
+            Place("crates/tap_journal/src/layout.rt", r"const CARDS_LIMIT: u32 = (?P<code>[\d_]+);"),
             Place("crates/command_line/src/commands/*.rt",
                   r"(?:number of cards|the card|this card|was made with)[,;] (?:N )?from 1 to (?P<code>\d+)"),
             Place("docs/reference/JOURNAL.md", r"number of cards, 1 to (?P<code>[\d,]+)"),
             Place("docs/reference/PROTOCOL.md", r"A server has at most (?P<code>[\d,]+) cards"),
             Place("docs/operate/NETWORK.md", r"A server has at most (?P<code>[\d,]+) cards"),
             Place("scripts/tests/clients.py", r"1 <= cards <= (?P<code>[\d_]+)"),
+        ]),
+    "the bytes of a digest": (
+        Place("crates/fare_table/src/digests.rt", r"const DIGEST_SIZE: usize = (?P<code>\d+);"), [
+            Place("crates/tap_journal/src/layout.rt", r"const DIGEST_SIZE: usize = (?P<code>\d+);"),
+            Place("crates/command_line/src/seal.rt", r"const SEAL_SIZE: usize = (?P<code>\d+);"),
+            Place(SOURCE, r"DIGEST_SIZE = (?P<code>\d+)$"),
         ]),
     "the most lines of a server": (
         Place("crates/tap_office/src/opening.rt", r"const SEAT_LIMIT: u16 = (?P<code>\d+);"), [

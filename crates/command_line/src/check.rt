@@ -5,10 +5,7 @@ ghost use Rattle.command_line.specs.Arguments.{IsJourneyAllowed, IsCheckAllowed}
 
 use crate::number::short_in;
 use clap::ArgMatches;
-use money_time::day_of;
-
-/// How many seconds a day has.
-const DAY_SECONDS: i64 = 86_400;
+use money_time::{DAY_SECONDS, day_of};
 
 /// What a check is asked for.
 #[derive(Clone, Copy, Debug, PartialEq, Eq)]
@@ -125,7 +122,7 @@ fn moment_in(bytes: &[u8], text: &str) -> Option<u32> {
     let minute = below(*m1, *m2, 60)?;
     let second = below(*s1, *s2, 60)?;
     let second_of_day = i64::from(hour) * 3_600 + i64::from(minute) * 60 + i64::from(second);
-    let midnight = i64::from(day) * DAY_SECONDS;
+    let midnight = i64::from(day) * i64::from(DAY_SECONDS);
     u32::try_from(midnight.checked_add(second_of_day)?).ok()
 }
 

@@ -1,13 +1,12 @@
 -- Worked examples, computed by the definitions: the lines of a door, and the limits in the texts of what is allowed.
 use Rattle.std.proofs.Common.{◌≡◌, refl, ◌++◌, [], ◌∷◌, true, false, codes}
-use Rattle.std.specs.Prelude.{None, Some, pos}
+use Rattle.std.specs.Prelude.{None, Some}
 use Rattle.std.specs.Fmt.{decimal, digits}
 use Rattle.door_file.specs.Rule.{Entry}
-use Rattle.door_file.specs.declared.key.TheConstants.{MOST_RULES, LONGEST_NAME, HIGHEST_GATE}
+use Rattle.door_file.specs.declared.key.TheConstants.{MOST_RULES, LONGEST_NAME}
 use Rattle.door_check.specs.Allowed.{printed_allowed}
 use Rattle.door_check.specs.Doors.{most_read}
 use Rattle.door_check.specs.Lines.{door_lines}
-use Rattle.door_check.specs.declared.items.TheConstants.{HIGHEST_GATE as highest}
 use Rattle.door_check.specs.declared.open.TheConstants.{MOST_READ}
 use Rattle.door_check.specs.declared.standing.Allowed.TheVariants.{Rules, Name}
 
@@ -49,8 +48,8 @@ the_lines_of_a_door = refl
 
 -- the most bytes that are read, and the limits in the texts of what is allowed
 the_limits :
-    (most_read ≡ 1_048_577) × (MOST_READ ≡ most_read) × (highest ≡ pos HIGHEST_GATE)
+    (most_read ≡ 1_048_577) × (MOST_READ ≡ most_read)
     × (printed_allowed Rules ≡ codes "a list of 1 to " ++ (decimal MOST_RULES ++ codes " rules"))
     × (printed_allowed Name ≡ codes "a text of 1 to " ++ (decimal LONGEST_NAME ++ codes " bytes"))
 unfolding digits
-the_limits = (refl, refl, refl, refl, refl)
+the_limits = (refl, refl, refl, refl)

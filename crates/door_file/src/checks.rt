@@ -176,7 +176,7 @@ fn are_kinds(items: &[Value]) -> bool
 }
 
 /// Whether a value is the word of a kind of request.
-fn is_known(value: &Value) -> bool
+pub fn is_known(value: &Value) -> bool
     ensures { result ≡ is_known (view value.now) }
 {
     KINDS.iter().any(|kind| is_kind(*kind, value))

@@ -20,8 +20,10 @@ mod rule;
 mod tree;
 mod unknown;
 
+pub use checks::is_known;
 pub use door::{Door, MOST_BYTES};
 pub use fault::{DoorFault, Place, Problem};
+pub use gates::range_in;
 pub use key::{Key, RULE_KEYS, Shape};
 pub use kind::Kind;
 pub use laws::door_texts;

@@ -12,7 +12,7 @@ use crate::dated::{Dated, count_on, place_on};
 use crate::digest::place_among;
 use crate::fault::SupplyFault;
 use crate::stations::have_same_stations;
-use fare_table::Fares;
+use fare_table::{Digest, Fares};
 use money_time::Stamp;
 use std::alloc::{AllocError, Global};
 
@@ -73,7 +73,7 @@ impl Schedule {
     }
 
     /// Whether there is a table of this digest.
-    pub fn knows(&self, digest: &[u8; 32]) -> bool
+    pub fn knows(&self, digest: &Digest) -> bool
         ensures { result ≡ is_some (table_of (tables_of self.now) digest.now) }
     {
         self.place_of(digest).is_some()
@@ -81,7 +81,7 @@ impl Schedule {
 
     /// The place of the table of a digest, 0 for the first. By it `digest_at` gives the digest
     /// back.
-    pub fn place(&self, digest: &[u8; 32]) -> Option<u8>
+    pub fn place(&self, digest: &Digest) -> Option<u8>
         ensures found { is_some result ≡ is_some (table_of (tables_of self.now) digest.now) }
         ensures back { IfSome result (λ place. digest_at self.now place ≡ digest.now) }
     {
@@ -93,7 +93,7 @@ impl Schedule {
 
     /// The digest of the table at a place, 0 for the first. It is that of the first, too, where no
     /// table stands at the place.
-    pub fn digest_at(&self, place: u8) -> [u8; 32]
+    pub fn digest_at(&self, place: u8) -> Digest
         ensures { result ≡ digest_at self.now place }
     {
         // The first table stands before those that were supplied.
@@ -194,7 +194,7 @@ impl Schedule {
     /// There has to be such a table, which [`Schedule::knows`] tells, and room, which
     /// [`Schedule::ready`] makes; and the day has to be above that of the last revision. It takes
     /// no memory.
-    pub fn revise(&mut self, digest: &[u8; 32], day: i32)
+    pub fn revise(&mut self, digest: &Digest, day: i32)
         requires known { IsSome (table_of (tables_of self.old) digest.now) }
         requires room { HasRoom self.old }
         requires later { IsAfterLast self.old day }
@@ -264,7 +264,7 @@ impl Schedule {
     }
 
     /// The place of the table of this digest.
-    fn place_of(&self, digest: &[u8; 32]) -> Option<usize>
+    fn place_of(&self, digest: &Digest) -> Option<usize>
         ensures value { result ≡ place_from 0 (tables_of self.now) digest.now }
         ensures placed { IfSome result (λ place. place ≤ length self.now.supplied.items) }
     {

@@ -6,7 +6,7 @@ ghost use Rattle.proxy_header.specs.Header.{IsHeader, name_text};
 
 use console::Detail;
 use journal_audit::CommandFault;
-use office_lines::Connection;
+use office_lines::{BETWEEN_LINES, Connection};
 use proxy_header::{HeaderFault, read_header};
 use std::alloc::Global;
 use std::fmt;
@@ -16,9 +16,6 @@ use std::net::SocketAddr;
 use std::sync::atomic::{AtomicU64, Ordering};
 use std::time::{Clock, Duration};
 use tcp_line::Unhindered;
-
-/// How many milliseconds lie between two lines on headers at least.
-const BETWEEN_LINES: u64 = 60_000;
 
 /// What is said of an address that isn't a loopback one, where a proxy's headers are read.
 const NOT_LOOPBACK: &str = "--proxy needs a loopback address, such as 127.0.0.1:4014";

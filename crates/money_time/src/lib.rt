@@ -10,7 +10,7 @@ mod spans;
 mod stamp;
 mod zone;
 
-pub use date::day_of;
+pub use date::{DAY_SECONDS, day_of};
 pub use fault::TimeFault;
 pub use stamp::{FARE_DAY_START, Stamp, Window};
 pub use zone::Zone;

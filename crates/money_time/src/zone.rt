@@ -6,6 +6,7 @@ ghost use Rattle.jiff.specs.Words.{read_whole, offset_at, plain_zone, nanos_of_s
 ghost use Rattle.jiff.specs.Words.{IsOffsetSeconds, epoch_day};
 ghost use Rattle.money_time.specs.Span.{IsSpanOf};
 
+use crate::date::DAY_SECONDS;
 use crate::fault::TimeFault;
 use crate::span::Span;
 use crate::spans::{self, SPANS, SPANS_A_YEAR};
@@ -84,8 +85,8 @@ impl Zone {
         ensures low { (pos 0 -ℤ pos 2) ≤ℤ result.0 }
     {
         let clock = i64::from(moment) + i64::from(self.offset(moment));
-        let day = clock.div_euclid(86_400) as i32;
-        let minute = (clock.rem_euclid(86_400) / 60) as u16;
+        let day = clock.div_euclid(i64::from(DAY_SECONDS)) as i32;
+        let minute = (clock.rem_euclid(i64::from(DAY_SECONDS)) / 60) as u16;
         (day, minute)
     }
 

@@ -11,8 +11,9 @@ use std::sync::{Mutex, Wait};
 use std::time::Duration;
 use tcp_line::Unhindered;
 
-/// How many milliseconds lie between two lines on the same rule and the same reason at least.
-const BETWEEN_LINES: u64 = 60_000;
+/// How many milliseconds lie at least between two lines on the same thing, such as requests that
+/// one rule keeps out for one reason.
+pub const BETWEEN_LINES: u64 = 60_000;
 
 /// How often one thing was kept out, since it was told last.
 #[derive(Drop)]

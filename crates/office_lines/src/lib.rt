@@ -31,6 +31,7 @@ pub use clerk::OfficeClerk;
 pub use connection::Connection;
 pub use fault::ServeFault;
 pub use gate_line::{GateLine, TcpLines};
+pub use kept_out::BETWEEN_LINES;
 pub use lent::Lent;
 pub use notice::{Lines, Notice, Standing, SystemSaid, Watch};
 pub use notices::{Notices, Watched};

@@ -14,6 +14,7 @@ ghost use Rattle.oyster_account.specs.Laws.{DoRefusalsChangeNothing, IsKeptBy};
 ghost use Rattle.oyster_account.specs.Scheme.{scheme_of};
 
 use fare_schedule::Schedule;
+use fare_table::Digest;
 
 /// Each touch in or out begins a leg, ends one, or misses its other end: as an unfinished touch in,
 /// a late touch out or an unstarted one. It is in exactly one of these classes.
@@ -82,7 +83,7 @@ pub fn refusals_change_nothing()
 /// touch of a history has reached the day, each card stands for the same touches with the same
 /// replies after it, and is seen as before. The days before keep their terms, and the moments of
 /// these days their stamps.
-pub fn revise_keeps(schedule: &mut Schedule, digest: &[u8; 32], day: i32)
+pub fn revise_keeps(schedule: &mut Schedule, digest: &Digest, day: i32)
     requires known { IsSome (table_of (tables_of schedule.old) digest.now) }
     requires room { HasRoom schedule.old }
     requires later { IsAfterLast schedule.old day }

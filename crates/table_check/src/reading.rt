@@ -1,39 +1,11 @@
 //! What a fare table says, place by place, in words.
 
 use crate::found::Found;
+use crate::rows::naming_keys;
 use crate::tree::{member_in, rows_at, text_in, value_at, whole_in};
-use fare_table::Key;
+use fare_table::{Key, LISTS, TOP_KEYS};
 use std::alloc::{AllocError, Global};
 use toml::{Table, Value};
-
-/// The keys of the table itself that hold no list.
-const WHOLE: [Key; 7] = [
-    Key::Zone,
-    Key::EntryMinimum,
-    Key::BalanceLimit,
-    Key::LegMinutes,
-    Key::EveningRule,
-    Key::MaximumPeak,
-    Key::MaximumOffPeak,
-];
-
-/// The lists of rows, and the keys that don't name a row: what it says.
-const LISTS: [(Key, &[Key]); 5] = [
-    (Key::Station, &[Key::StationName, Key::StationZones]),
-    (Key::Single, &[Key::SinglePeak, Key::SingleOffPeak]),
-    (
-        Key::Pair,
-        &[
-            Key::PairLo,
-            Key::PairHi,
-            Key::PairPeak,
-            Key::PairOffPeak,
-            Key::PairMinutes,
-        ],
-    ),
-    (Key::Cap, &[Key::CapPrice]),
-    (Key::Interchange, &[Key::InterchangeMinutes]),
-];
 
 /// What a table says at one place.
 #[derive(Debug, PartialEq, Eq, Drop)]
@@ -48,14 +20,17 @@ pub struct Said {
 /// holidays. Keys that nobody knows aren't read.
 pub fn reading_of(alloc: Global, tree: &Table) -> Result<Vec<Said>, AllocError> {
     let mut said = Vec::new(alloc);
-    for key in WHOLE {
-        if let Some(value) = value_at(tree, key.text()) {
-            said.push(said_of(alloc, key.text(), value)?)?;
+    for key in TOP_KEYS {
+        match value_at(tree, key.text()) {
+            Some(value) if !LISTS.contains(&key) => said.push(said_of(alloc, key.text(), value)?)?,
+            _ => {}
         }
     }
-    for (list, keys) in LISTS {
-        for row in rows_at(tree, list.text()) {
-            said.push(row_said(alloc, list, keys, row)?)?;
+    for list in LISTS {
+        if list != Key::Holidays {
+            for row in rows_at(tree, list.text()) {
+                said.push(row_said(alloc, list, row)?)?;
+            }
         }
     }
     for day in rows_at(tree, Key::Holidays.text()) {
@@ -73,10 +48,10 @@ fn said_of(alloc: Global, key: &str, value: &Value) -> Result<Said, AllocError> 
 }
 
 /// What a row says.
-fn row_said(alloc: Global, list: Key, keys: &[Key], row: &Value) -> Result<Said, AllocError> {
+fn row_said(alloc: Global, list: Key, row: &Value) -> Result<Said, AllocError> {
     Ok(Said {
         place: row_place(alloc, list, row)?,
-        value: row_text(alloc, keys, row)?,
+        value: row_text(alloc, list, row)?,
     })
 }
 
@@ -133,18 +108,18 @@ fn number(row: &Value, key: Key) -> i64 {
     whole_in(row, key).unwrap_or(0)
 }
 
-/// What stands at these keys of a row, those that are there.
-fn row_text(alloc: Global, keys: &[Key], row: &Value) -> Result<String, AllocError> {
+/// What a row of a list says: each key that is there, but those that name the row.
+fn row_text(alloc: Global, list: Key, row: &Value) -> Result<String, AllocError> {
     let mut text = String::new(alloc);
-    for key in keys {
-        let key = key.text();
-        if let Some(value) = member_in(row, key) {
-            if !text.is_empty() {
-                text.push_str(", ")?;
+    for key in list.keys() {
+        let name = key.text();
+        match member_in(row, name) {
+            Some(value) if !naming_keys(list).contains(key) => {
+                let before = if text.is_empty() { "" } else { ", " };
+                let value = value_text(alloc, value)?;
+                text.push_str(&format!(in alloc; "{before}{name} {value}")?)?;
             }
-            text.push_str(key)?;
-            text.push_str(" ")?;
-            text.push_str(&value_text(alloc, value)?)?;
+            _ => {}
         }
     }
     Ok(text)

@@ -5,19 +5,29 @@ use crate::tree::{row_at, rows_at, text_in, whole_in};
 use fare_table::Key;
 use toml::{Table, Value};
 
-/// The lists whose rows name two stations, and the keys that name them.
-const OF_TWO: [(Key, Key, Key); 2] = [
-    (Key::Pair, Key::PairFrom, Key::PairTo),
-    (Key::Interchange, Key::InterchangeA, Key::InterchangeB),
-];
+/// The lists whose rows name two stations.
+const OF_TWO: [Key; 2] = [Key::Pair, Key::Interchange];
+
+/// The keys that name a row of this list: no two rows have the same there. A row of another key is
+/// named by none.
+pub fn naming_keys(list: Key) -> &'static [Key] {
+    match list {
+        Key::Station => &[Key::StationId],
+        Key::Single => &[Key::SingleLow, Key::SingleHigh],
+        Key::Pair => &[Key::PairFrom, Key::PairTo],
+        Key::Cap => &[Key::CapLo, Key::CapHi, Key::CapKind],
+        Key::Interchange => &[Key::InterchangeA, Key::InterchangeB],
+        _ => &[],
+    }
+}
 
 /// The first pair, or else the first interchange, that names this station, by the key that names
 /// it.
 pub fn naming(tree: &Table, station: i64) -> Option<Wanted> {
-    for (list, one, other) in OF_TWO {
+    for list in OF_TWO {
         for (place, row) in rows_at(tree, list.text()).iter().enumerate() {
-            for key in [one, other] {
-                if whole_in(row, key) == Some(station) {
+            for key in naming_keys(list) {
+                if whole_in(row, *key) == Some(station) {
                     let row = place.saturating_add(1);
                     return Some(Wanted::Cell(list.text(), row, key.text()));
                 }
@@ -50,25 +60,16 @@ pub fn has_pair(tree: &Table, from: i64, to: i64) -> bool {
 /// Whether two rows of a list name the same: a station its number, a single fare its zones, a pair
 /// and an interchange their stations in either order, and a cap its zones and its kind.
 fn name_the_same(list: Key, one: &Value, other: &Value) -> bool {
-    match list {
-        Key::Station => are_same(one, other, Key::StationId),
-        Key::Single => {
-            are_same(one, other, Key::SingleLow) && are_same(one, other, Key::SingleHigh)
-        }
-        Key::Pair => are_ends_same(one, other, Key::PairFrom, Key::PairTo),
-        Key::Interchange => are_ends_same(one, other, Key::InterchangeA, Key::InterchangeB),
-        Key::Cap => {
-            are_same(one, other, Key::CapLo)
-                && are_same(one, other, Key::CapHi)
-                && text_in(one, Key::CapKind) == text_in(other, Key::CapKind)
-        }
-        _ => false,
+    match naming_keys(list) {
+        [] => false,
+        [from, to] if OF_TWO.contains(&list) => are_ends_same(one, other, *from, *to),
+        keys => keys.iter().all(|key| are_same(one, other, *key)),
     }
 }
 
-/// Whether two rows have the same whole number at a key.
+/// Whether two rows have the same whole number and the same text at a key.
 fn are_same(one: &Value, other: &Value, key: Key) -> bool {
-    whole_in(one, key) == whole_in(other, key)
+    whole_in(one, key) == whole_in(other, key) && text_in(one, key) == text_in(other, key)
 }
 
 /// Whether two rows have the same two whole numbers at two keys, in either order.
