@@ -36,6 +36,7 @@ pub mod StartLemmas
 pub mod ClientLemmas
 pub mod ClientRunLemmas
 pub mod AskingRunLemmas
+pub mod BookClerkLemmas
 pub mod AtOnceLemmas
 pub mod TryAmongLemmas
 pub mod AmongLemmas

@@ -1,9 +1,12 @@
 -- What a clerk answers from a station's book (PROTOCOL.md, "Requests and their answers").
-use Rattle.std.specs.Prelude.{◌≡◌, ◌⊎◌, false, length}
+use Rattle.std.specs.Prelude.{◌≡◌, false, length, Result, Ok, Err}
 use Rattle.oyster_account.specs.declared.touch.Touch.{Touch}
-use Rattle.oyster_account.specs.declared.reply.Reply.{Reply}
 use Rattle.oyster_account.specs.declared.card.TheConstants.{HISTORY_LIMIT}
 use Rattle.reply_book.specs.declared.entry.Found.TheVariants.{New, Conflict as Other}
+use Rattle.reply_book.specs.declared.answering.Answered.{Answered}
+use Rattle.reply_book.specs.declared.answering.Answered.TheVariants.{Entered, Repeated}
+use Rattle.reply_book.specs.declared.answering.AnswerFault.{AnswerFault}
+use Rattle.reply_book.specs.declared.answering.AnswerFault.TheVariants as refusals
 use Rattle.reply_book.specs.declared.book.Book.{Book}
 use Rattle.reply_book.specs.Book.{entries_of, cards_of, tables_of, HasRoom}
 use Rattle.reply_book.specs.Tables.{is_known}
@@ -19,7 +22,22 @@ use Rattle.gate_session.specs.declared.answer.FaultCode.TheVariants.{BadFrame, C
 use Rattle.gate_session.specs.declared.answer.FaultCode.TheVariants.{Memory, Full, UnknownTable}
 use Rattle.gate_session.specs.declared.answer.FaultCode.TheVariants.{NotAllowed}
 use Rattle.gate_session.specs.Answers.{AnswerFits, fault_code}
-use Rattle.gate_law.specs.Station.{IsEntered, IsRepeated, DoesAnswer, station_of}
+use Rattle.gate_law.specs.Station.{DoesAnswer, station_of}
+
+-- the fault that tells why a touch has no reply
+abbrev pub code_of : AnswerFault → FaultCode
+code_of refusals.Conflict = Conflict
+code_of refusals.UnknownTable = UnknownTable
+code_of refusals.Full = Full
+code_of refusals.Memory = Memory
+
+-- the answer to a touch of which this came in the book: its reply, or the fault for which it has
+-- none
+abbrev pub answer_for : Touch → Result Answered AnswerFault → Answer
+answer_for touch (Ok (Entered place reply)) = answers.Reply touch.gate touch.number reply
+answer_for touch (Ok (Repeated place reply)) = answers.Reply touch.gate touch.number reply
+answer_for touch (Err fault) =
+    answers.Fault (fault_code (code_of fault)) touch.gate touch.number
 
 -- this is why a touch isn't entered in the book, and stands there under no reply
 abbrev pub IsRefusedFor : Book → Touch → FaultCode → Type 0
@@ -49,19 +67,6 @@ IsToldBy book (requests.Enquire card) answer =
     answer ≡ answers.Holding
     (view_after (tables_of book) (cards_of book) (history_of (entries_of book)) card)
     (length (entries_of book))
-
--- the touch was new, and is entered with this reply
-abbrev pub IsEnteredBy : Book → Touch → Reply → Book → Type 0
-IsEnteredBy old touch reply new =
-    IsEntered (station_of old) (station_of new) touch
-    (answers.Reply touch.gate touch.number reply)
-
--- the touch is entered with this reply, or stood in the book with it
-abbrev pub IsReplyBy : Book → Touch → Reply → Book → Type 0
-IsReplyBy old touch reply new =
-    IsEnteredBy old touch reply new
-    ⊎ IsRepeated (station_of old) (station_of new) touch
-    (answers.Reply touch.gate touch.number reply)
 
 -- a clerk of this book does of the request what the book's station does, in numbers of their types,
 -- and tells what the book has

@@ -1,15 +1,12 @@
 //! A clerk who answers from a station's book: what a clerk is that keeps a station.
-ghost use Rattle.std.specs.Prelude.{◌≡◌, IfOk, IfErr, OnErr};
-ghost use Rattle.gate_session.specs.Answers.{AnswerFits};
-ghost use Rattle.reply_book.specs.declared.entry.Found.TheVariants.{New};
-ghost use Rattle.reply_book.specs.Book.{Stands, entries_of};
-ghost use Rattle.reply_book.specs.Lookup.{found};
-ghost use Rattle.gate_law.specs.Station.{station_of};
-ghost use Rattle.gate_law.specs.BookClerk.{IsEnteredBy, IsReplyBy, IsRefusedFor};
+ghost use Rattle.std.specs.Prelude.{◌≡◌};
+ghost use Rattle.gate_session.specs.Answers.{AnswerFits, fault_code};
+ghost use Rattle.reply_book.specs.Book.{Stands};
+ghost use Rattle.gate_law.specs.BookClerk.{answer_for, code_of};
 
 use gate_session::{Answer, Clerk, FaultCode};
-use oyster_account::{CardView, HISTORY_LIMIT, Reply, Touch};
-use reply_book::{Book, Found};
+use oyster_account::{CardView, Reply, Touch};
+use reply_book::{AnswerFault, Answered, Book};
 use std::marker::Model;
 use std::sync::Wait;
 
@@ -72,20 +69,8 @@ impl Clerk for BookClerk {
     ghost gives = { IsGivenBy };
 
     fn submit<R: Wait>(&mut self, _rt: &R, touch: Touch) -> Answer {
-        let Touch { gate, number, .. } = touch;
-        let answer = match reply_to(&mut self.book, &touch) {
-            Ok(reply) => Answer::Reply {
-                gate,
-                number,
-                reply,
-            },
-            Err(cause) => Answer::Fault {
-                code: cause.code(),
-                gate,
-                number,
-            },
-        };
-        fitting(answer)
+        let given = self.book.answer(&touch, SEAT);
+        fitting(answer_for(&touch, given))
     }
 
     fn enquire(&mut self, card: u32) -> Answer {
@@ -96,42 +81,48 @@ impl Clerk for BookClerk {
     }
 }
 
-/// The reply to a touch, which stands in the book then, or why there is none.
-fn reply_to(book: &mut Book, touch: &Touch) -> Result<Reply, FaultCode>
-    requires { Stands book.old }
-    ensures ok { IfOk result (λ reply. IsReplyBy book.old touch.now reply book.new) }
-    ensures kept { OnErr result (station_of book.new ≡ station_of book.old) }
-    ensures cause { IfErr result (IsRefusedFor book.old touch.now) }
-    ensures stands { Stands book.new }
+/// The answer to a touch of which this came: its reply, or the fault for which it has none.
+fn answer_for(touch: &Touch, given: Result<Answered, AnswerFault>) -> Answer
+    ensures { result ≡ answer_for touch.now given }
 {
-    match book.find(touch) {
-        Found::New => enter(book, touch),
-        Found::First(_, reply) => Ok(reply),
-        Found::Conflict => Err(FaultCode::Conflict),
+    match given {
+        Ok(Answered::Entered { place: _, reply }) => reply_to(touch, reply),
+        Ok(Answered::Repeated { place: _, reply }) => reply_to(touch, reply),
+        Err(fault) => fault_of(touch, code_of(fault)),
     }
 }
 
-/// Enters a touch whose gate and number are new. Room is made for it, if there is memory.
-fn enter(book: &mut Book, touch: &Touch) -> Result<Reply, FaultCode>
-    requires stands { Stands book.old }
-    requires new { found (entries_of book.old) touch.now ≡ New }
-    ensures ok { IfOk result (λ reply. IsEnteredBy book.old touch.now reply book.new) }
-    ensures kept { OnErr result (station_of book.new ≡ station_of book.old) }
-    ensures cause { IfErr result (IsRefusedFor book.old touch.now) }
-    ensures stands { Stands book.new }
+/// The reply to a touch, with its gate and number.
+fn reply_to(touch: &Touch, reply: Reply) -> Answer
+    ensures { result ≡ Answer.Reply touch.now.gate touch.now.number reply }
 {
-    if !book.knows(touch) {
-        return Err(FaultCode::UnknownTable);
+    Answer::Reply {
+        gate: touch.gate,
+        number: touch.number,
+        reply,
     }
-    if book.len() == HISTORY_LIMIT {
-        return Err(FaultCode::Full);
+}
+
+/// A fault that answers a touch, with its gate and number.
+fn fault_of(touch: &Touch, code: FaultCode) -> Answer
+    ensures { result ≡ Answer.Fault (fault_code code) touch.now.gate touch.now.number }
+{
+    Answer::Fault {
+        code: code.code(),
+        gate: touch.gate,
+        number: touch.number,
     }
-    match book.ready(touch) {
-        Ok(stamp) => {
-            let (_place, reply) = book.add(touch, &stamp, SEAT);
-            Ok(reply)
-        }
-        Err(_) => Err(FaultCode::Memory),
+}
+
+/// The fault that tells a gate why its touch has no reply.
+fn code_of(fault: AnswerFault) -> FaultCode
+    ensures { result ≡ code_of fault }
+{
+    match fault {
+        AnswerFault::Conflict => FaultCode::Conflict,
+        AnswerFault::UnknownTable => FaultCode::UnknownTable,
+        AnswerFault::Full => FaultCode::Full,
+        AnswerFault::Memory => FaultCode::Memory,
     }
 }
 

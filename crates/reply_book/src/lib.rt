@@ -3,6 +3,7 @@
 //! which no gate and number stands twice and each reply is the account's judgement at that point.
 #![tactic(auto)]
 
+mod answering;
 mod book;
 mod entry;
 mod fault;
@@ -13,6 +14,7 @@ mod laws;
 mod reached;
 mod replay;
 
+pub use answering::{AnswerFault, Answered};
 pub use book::{Book, CARD_LIMIT};
 pub use entry::{Entry, Found};
 pub use fault::ReplayFault;

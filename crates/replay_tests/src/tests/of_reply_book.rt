@@ -11,6 +11,7 @@ ghost use Rattle.reply_book.specs.Lookup.{found};
 ghost use Rattle.reply_book.specs.Tables.{is_known};
 ghost use Rattle.reply_book.specs.Book.{entries_of, tables_of, scheme_in, HasRoom, Stands};
 
+mod answering;
 mod entering;
 mod revised;
 mod revisions;
