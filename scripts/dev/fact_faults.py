@@ -7,9 +7,13 @@ from fact_code import Wrong
 
 DISPLAY = re.compile(r"^impl fmt::Display for (\w+(?:Fault|Cause)) \{\n(.*?)^\}", re.M | re.S)
 ENUM = re.compile(r"^pub(?:\(crate\))? enum (\w+) \{\n(.*?)^\}", re.M | re.S)
+# A struct with its fields, of which an enum prints one.
+STRUCT = re.compile(r"^pub struct (\w+) \{\n(.*?)^\}", re.M | re.S)
+FIELD = re.compile(r"^ {4}pub (\w+): (\w+),", re.M)
 # A variant with what it has, in the enum and in a pattern.
 VARIANT = re.compile(r"^ {4}(?P<name>\w+)(?:\((?P<types>[^)]*)\))?[,{ ]", re.M)
 PRINTED = re.compile(r"\w+(?:Fault|Cause)::(?P<name>\w+)(?:\((?P<fields>[^)]*)\)| \{[^{}]*\})? => (?:\{\s*)?"
+                     r"(?:let (?P<part>\w+) = (?P<whole>\w+)\.(?P=part);\s*)?"
                      r'(?:f\.write_str\(|write!\(f, )"(?P<text>[^"]*)"(?:, (?P<other>\w+)::(?P<variant>\w+))?')
 # What the programs print their faults by.
 PROGRAMS = {"bovtrila": "CommandFault", "gate_send": "SendFault"}
@@ -33,23 +37,27 @@ def displayed(top: pathlib.Path) -> dict[str, dict[str, Printed]]:
     """What each variant of each enum prints."""
     found: dict[str, dict[str, Printed]] = {}
     types: dict[str, dict[str, list[str]]] = {}
-    for file in sorted({*top.glob("crates/*/src/*.rt"), *top.glob("crates/*/src/*/fault.rt")}):
-        text = file.read_text()
+    texts = {file: file.read_text() for file in sorted({*top.glob("crates/*/src/*.rt"), *top.glob("crates/*/src/*/fault.rt")})}
+    parts = {name: dict(FIELD.findall(body)) for text in texts.values() for name, body in STRUCT.findall(text)}
+    for file, text in texts.items():
         for name, body in ENUM.findall(text):
             types[name] = {one["name"]: (one["types"] or "").split(", ") for one in VARIANT.finditer(body)}
         for name, body in DISPLAY.findall(text):
-            found[name] = {one["name"]: of_variant(one, types.get(name, {}).get(one["name"], [])) for one in PRINTED.finditer(body)}
+            found[name] = {one["name"]: of_variant(one, types.get(name, {}).get(one["name"], []), parts)
+                           for one in PRINTED.finditer(body)}
             if found[name].keys() - types.get(name, {}).keys():
                 raise Wrong(f"{file.relative_to(top)}: {name} prints other variants than it has; scripts/dev/fact_faults.py "
                             "has to be changed with the code")
     return found
 
 
-def of_variant(match: re.Match[str], types: list[str]) -> Printed:
+def of_variant(match: re.Match[str], types: list[str], parts: dict[str, dict[str, str]]) -> Printed:
     """What a variant prints."""
-    fields = (match["fields"] or "").split(", ")
+    typed = dict(zip((match["fields"] or "").split(", "), types))
+    if match["part"]:
+        typed[match["part"]] = parts[typed[match["whole"]]][match["part"]]
     other = (match["other"], match["variant"]) if match["other"] else None
-    return Printed(match["text"], dict(zip(fields, types)), other)
+    return Printed(match["text"], typed, other)
 
 
 def lines(printed: dict[str, dict[str, Printed]], name: str) -> list[str]:

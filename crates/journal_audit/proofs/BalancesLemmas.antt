@@ -2,9 +2,10 @@
 use Rattle.std.proofs.Common.{◌≡◌, ◌⊎◌, ℕ, List, [], Option, Some, Err, inl, inr, refl, sym, subst, ap, ◌∙◌}
 use Rattle.std.specs.Prelude.{All}
 use Rattle.reply_book.specs.Tables.{Tables}
-use Rattle.tap_journal.specs.declared.fault.JournalFault.{JournalFault}
+use Rattle.tap_journal.specs.declared.fault.Refused.{Refused}
 use Rattle.tap_journal.specs.declared.fault.JournalFault.TheVariants.{Memory as MemoryRefused}
 use Rattle.tap_journal.specs.Alone.{HasCauseAlone}
+use Rattle.tap_journal.specs.Found.{found_alone}
 use Rattle.fare_table.specs.Fares.{digest_of}
 use Rattle.journal_audit.specs.declared.fault.AuditFault.{AuditFault}
 use Rattle.journal_audit.specs.declared.fault.AuditFault.TheVariants.{Memory, Write, Journal, Header as OtherHeader}
@@ -20,19 +21,22 @@ use Rattle.oyster_account.specs.declared.reply.Judged.{Judged}
 use Rattle.reply_book.specs.Legal.{book}
 use Rattle.reply_book.specs.Names.{AreNamedOnce}
 use Rattle.reply_book.specs.Tables.{AreKnown}
-use Rattle.journal_audit.specs.Audit.{IsJournal}
+use Rattle.journal_audit.specs.Audit.{IsJournal, IsRefusedAlone}
+use Rattle.journal_audit.proofs.AuditLemmas.{none-memory}
 use Rattle.journal_audit.proofs.AccountLemmas.{rows-account}
 use Rattle.oyster_account.specs.declared.touch.Touch.{Touch}
 use Rattle.tap_journal.specs.declared.layout.Format.{Format}
 use Rattle.tap_journal.specs.Layout.{Header}
 
 -- the fault of a reading alone is that of the balances, by the digest of the first table
-pub refused-alone : (tables : Tables) (at : Option ℕ) (bytes digest : List ℕ) (fault : JournalFault)
-    → digest ≡ digest_of tables.first → (fault ≡ MemoryRefused) ⊎ HasCauseAlone (Some digest) bytes fault
-    → HasRefused tables at bytes (Journal fault)
-refused-alone tables at bytes digest fault same (inl refused) = inl refused
-refused-alone tables at bytes digest fault same (inr alone) =
-    inr (inl (subst (λ (d : List ℕ). HasCauseAlone (Some d) bytes fault) same alone))
+pub refused-alone : (tables : Tables) (at : Option ℕ) (bytes digest : List ℕ) (refused : Refused)
+    → digest ≡ digest_of tables.first
+    → (refused.cause ≡ MemoryRefused) ⊎ HasCauseAlone (Some digest) bytes refused.cause
+    → refused.found ≡ found_alone (Some digest) bytes refused.cause → HasRefused tables at bytes (Journal refused)
+refused-alone tables at bytes digest refused same (inl memory) found =
+    inl (none-memory refused (Some digest) bytes memory found)
+refused-alone tables at bytes digest refused same (inr alone) found =
+    inr (inl (subst (λ (d : List ℕ). IsRefusedAlone (Some d) bytes refused) same (alone, found)))
 
 -- so is that of a place behind the touches
 pub refused-place : (tables : Tables) (at : Option ℕ) (bytes : List ℕ) (format : Format) (h : Header)
@@ -60,7 +64,7 @@ refused-place tables at bytes format h touches (Balance card) journal far = absu
 
 -- and that of entering the touches
 pub refused-touches : (tables : Tables) (at : Option ℕ) (bytes : List ℕ) (h : Header) (touches : List Touch)
-    (fault : AuditFault) → AreTouchesOf tables at bytes h touches → HasRefusedTouches tables touches fault
+    (fault : AuditFault) → AreTouchesOf tables at bytes h touches → HasRefusedTouches tables h.cards touches fault
     → HasRefused tables at bytes fault
 refused-touches tables at bytes h touches Memory journal refused = tt
 refused-touches tables at bytes h touches Write journal refused = absurd refused

@@ -1,12 +1,14 @@
 -- Worked examples of commands, computed by the definitions: lines of FAULTS.md.
-use Rattle.std.proofs.Common.{◌≡◌, refl, [], ◌∷◌, Some, codes, true, false}
+use Rattle.std.proofs.Common.{◌≡◌, refl, [], ◌∷◌, Some, None, codes, true, false}
 use Rattle.std.specs.Fmt.{digits}
 use Rattle.hex.proofs.OnLiterals.{hex_on_literals}
 use Rattle.journal_audit.specs.declared.fault.AuditFault.TheVariants as audits
 use Rattle.journal_audit.specs.declared.fault.GateFault.TheVariants.{Foreign}
 use Rattle.journal_audit.specs.declared.fault.HeaderFault.TheVariants.{Capacity, Cards}
 use Rattle.journal_audit.specs.declared.fault.SealFault.TheVariants.{Shorter, Changed}
+use Rattle.tap_journal.specs.declared.fault.JournalFault.{JournalFault}
 use Rattle.tap_journal.specs.declared.fault.JournalFault.TheVariants as journals
+use Rattle.tap_journal.specs.declared.fault.Refused.{Refused}
 use Rattle.tap_journal.specs.declared.fault.MigrateCause.TheVariants as causes
 use Rattle.console.specs.Detail.{no_detail}
 use Rattle.journal_audit.specs.Command.{audit_fault}
@@ -38,14 +40,19 @@ unfolding digits
 a_fault_is_told_in_one_line =
     (refl, refl, refl, refl, refl, refl, refl, refl, refl, refl, refl, refl, refl, refl)
 
+-- a cause beside which nothing was found
+abbrev alone : JournalFault → Refused
+alone cause = record { cause = cause; found = None }
+
 -- the line of a fault that came of a part
 a_fault_of_a_part_is_told_as_the_commands :
     (told_fault (audit_fault audits.Memory) ≡ Some (codes "fault run 1 Memory"))
     × (told_fault (audit_fault audits.Write) ≡ Some (codes "fault run 3 Write"))
-    × (told_fault (Journal journals.WrongTable no_detail) ≡ Some (codes "fault journal 5 WrongTable"))
-    × (told_fault (Journal (journals.Damaged 0) no_detail) ≡ Some (codes "fault journal 7 Damaged 0"))
-    × (told_fault (Journal (journals.MissingTable 4) no_detail) ≡ Some (codes "fault journal 13 MissingTable 4"))
-    × (told_fault (Migrate (causes.Old journals.WrongTable) no_detail)
+    × (told_fault (Journal (alone journals.WrongTable) no_detail) ≡ Some (codes "fault journal 5 WrongTable"))
+    × (told_fault (Journal (alone (journals.Damaged 0)) no_detail) ≡ Some (codes "fault journal 7 Damaged 0"))
+    × (told_fault (Journal (alone (journals.MissingTable 4)) no_detail)
+    ≡ Some (codes "fault journal 13 MissingTable 4"))
+    × (told_fault (Migrate (record { cause = causes.Old journals.WrongTable; found = None }) no_detail)
     ≡ Some (codes "fault migrate 3 Old 5 WrongTable"))
 unfolding digits
 a_fault_of_a_part_is_told_as_the_commands = (refl, refl, refl, refl, refl, refl)

@@ -1,5 +1,6 @@
 mod Examples
 pub mod NameLemmas
+pub mod TouchLemmas
 pub mod AuditLemmas
 pub mod RevisionLemmas
 pub mod LawLemmas

@@ -9,8 +9,8 @@ use Rattle.tap_journal.specs.declared.layout.Format.{Format}
 use Rattle.tap_journal.specs.declared.layout.Format.TheVariants.{First, Second}
 use Rattle.tap_journal.specs.Layout.{Header, slot_at}
 use Rattle.tap_journal.specs.Alone.{header_found, open_behind}
-use Rattle.journal_audit.specs.declared.audit.seal.Sealed.{Sealed}
-use Rattle.journal_audit.specs.declared.audit.seal.Seal.{Seal}
+use Rattle.command_line.specs.declared.seal.Seal.{Seal}
+use Rattle.command_line.specs.declared.seal.Sealed.{Sealed}
 use Rattle.journal_audit.specs.declared.audit.seal.Seals.{Seals}
 use Rattle.journal_audit.specs.Finding.{finding_of, last_line}
 use Rattle.journal_audit.specs.Revisions.{history_by, revisions_text}

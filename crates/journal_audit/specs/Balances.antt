@@ -5,14 +5,12 @@ use Rattle.std.specs.Prelude.{Result, Ok, Err, All}
 use Rattle.oyster_account.specs.declared.touch.Touch.{Touch}
 use Rattle.reply_book.specs.Legal.{book}
 use Rattle.reply_book.specs.Tables.{Tables}
-use Rattle.tap_journal.specs.declared.fault.JournalFault.{JournalFault}
-use Rattle.tap_journal.specs.declared.fault.JournalFault.TheVariants as journal
+use Rattle.tap_journal.specs.declared.fault.Refused.{Refused}
 use Rattle.tap_journal.specs.declared.layout.Format.{Format}
 use Rattle.tap_journal.specs.Layout.{Header}
-use Rattle.tap_journal.specs.Alone.{HasCauseAlone}
 use Rattle.text_io.specs.Writing.{IsBeginning}
-use Rattle.journal_audit.specs.Audit.{IsJournal}
-use Rattle.journal_audit.specs.Touches.{digest_named, AreEntered, HasTouchCause}
+use Rattle.journal_audit.specs.Audit.{IsJournal, IsRefusedAlone}
+use Rattle.journal_audit.specs.Touches.{digest_named, no_memory, AreEntered, HasTouchCause}
 use Rattle.journal_audit.specs.declared.fault.AuditFault.{AuditFault}
 use Rattle.journal_audit.specs.declared.fault.AuditFault.TheVariants.{Memory, Write, Journal, Seal}
 use Rattle.journal_audit.specs.declared.fault.AuditFault.TheVariants.{Header as OtherHeader, Gate}
@@ -72,18 +70,18 @@ pub record AreBalances (tables : Tables) (at : Option ℕ) (bytes text : List �
   pub balanced : AreTotalsBalanced totals
 
 -- the bytes are a journal with a touch before the place that can't be entered, for this cause
-pub record IsNoBook (tables : Tables) (at : Option ℕ) (bytes : List ℕ) (fault : JournalFault)
+pub record IsNoBook (tables : Tables) (at : Option ℕ) (bytes : List ℕ) (refused : Refused)
     : Type 0 where
   pub h : Header
   pub touches : List Touch
   pub journal : AreTouchesOf tables at bytes h touches
-  pub not_entered : HasTouchCause tables touches fault
+  pub not_entered : HasTouchCause tables h.cards touches refused.found refused.cause
 
 -- memory was refused, or this is the first cause for which the bytes are no journal of the first
--- table, or for which its touches before the place can't be entered
-abbrev pub IsRefused : Tables → Option ℕ → List ℕ → JournalFault → Type 0
-IsRefused tables at bytes fault = (fault ≡ journal.Memory)
-    ⊎ HasCauseAlone (digest_named (Some tables)) bytes fault ⊎ IsNoBook tables at bytes fault
+-- table, or for which its touches before the place can't be entered, with what was found beside it
+abbrev pub IsRefused : Tables → Option ℕ → List ℕ → Refused → Type 0
+IsRefused tables at bytes refused = (refused ≡ no_memory)
+    ⊎ IsRefusedAlone (digest_named (Some tables)) bytes refused ⊎ IsNoBook tables at bytes refused
 
 -- the bytes are a journal of so many touches, and they are fewer than stand before the place
 pub record IsBehind (tables : Tables) (at : Option ℕ) (bytes : List ℕ) (count : ℕ) : Type 0 where
@@ -110,17 +108,17 @@ IsTooFar at touches (Place count) = (place : ℕ) × (at ≡ Some place) × (len
 IsTooFar at touches (Balance card) = ⊥
 
 -- there was no memory, or a touch can't be entered; after touches that can each row is balanced
-abbrev pub HasRefusedTouches : Tables → List Touch → AuditFault → Type 0
-HasRefusedTouches tables touches Memory = Unit {0}
-HasRefusedTouches tables touches Write = ⊥
-HasRefusedTouches tables touches (Journal fault) = (fault ≡ journal.Memory)
-    ⊎ HasTouchCause tables touches fault
-HasRefusedTouches tables touches (OtherHeader fault) = ⊥
-HasRefusedTouches tables touches (Seal fault) = ⊥
-HasRefusedTouches tables touches (Gate fault) = ⊥
-HasRefusedTouches tables touches (Card card cards) = ⊥
-HasRefusedTouches tables touches (Place count) = ⊥
-HasRefusedTouches tables touches (Balance card) = ⊥
+abbrev pub HasRefusedTouches : Tables → ℕ → List Touch → AuditFault → Type 0
+HasRefusedTouches tables cards touches Memory = Unit {0}
+HasRefusedTouches tables cards touches Write = ⊥
+HasRefusedTouches tables cards touches (Journal refused) = (refused ≡ no_memory)
+    ⊎ HasTouchCause tables cards touches refused.found refused.cause
+HasRefusedTouches tables cards touches (OtherHeader fault) = ⊥
+HasRefusedTouches tables cards touches (Seal fault) = ⊥
+HasRefusedTouches tables cards touches (Gate fault) = ⊥
+HasRefusedTouches tables cards touches (Card card count) = ⊥
+HasRefusedTouches tables cards touches (Place count) = ⊥
+HasRefusedTouches tables cards touches (Balance card) = ⊥
 
 -- why these bytes are refused: the first cause, or there was no memory. No card is ever told that
 -- doesn't hold what was paid in less what was charged

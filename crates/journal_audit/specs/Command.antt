@@ -1,14 +1,9 @@
 -- Why a journal wasn't told of, and what is asked of its header and seals (FAULTS.md;
 -- COMMANDS.md, "verify"; this project's choice).
-use Rattle.std.specs.Prelude.{option_map}
 use Rattle.command_line.specs.declared.arguments.Verify.{Verify}
-use Rattle.command_line.specs.declared.seal.Seal.{Seal as AskedSeal}
-use Rattle.command_line.specs.declared.seal.Sealed.{Sealed as AskedSealed}
 use Rattle.journal_audit.specs.declared.fault.AuditFault.{AuditFault}
 use Rattle.journal_audit.specs.declared.fault.AuditFault.TheVariants as audits
-use Rattle.journal_audit.specs.declared.audit.seal.Seal.{Seal}
 use Rattle.journal_audit.specs.declared.audit.header.Asked.{Asked}
-use Rattle.journal_audit.specs.declared.audit.seal.Sealed.{Sealed}
 use Rattle.text_io.specs.declared.fault.RunFault.TheVariants as runs
 use Rattle.console.specs.Detail.{no_detail}
 use Rattle.console.specs.declared.fault.TrialFault.TheVariants.{Run}
@@ -30,18 +25,10 @@ audit_fault (audits.Card card cards) = faults.Card card cards
 audit_fault (audits.Place touches) = Place touches
 audit_fault (audits.Balance card) = Balance card
 
--- a seal that a command line names
-abbrev pub sealed_named : AskedSealed → Sealed
-sealed_named sealed = record { touches = sealed.touches; digest = sealed.digest }
-
--- what a command line asks of the seals is what the audit is asked
-abbrev pub seal_asked : AskedSeal → Seal
-seal_asked seal = record { kept = option_map sealed_named seal.kept; is_made = seal.made }
-
--- so it is of the header and the seals
+-- what a command line asks of the header and the seals is what the audit is asked
 abbrev pub asked_by : Verify → Asked
 asked_by verify = record {
   capacity = verify.expect_capacity;
   cards = verify.expect_cards;
-  seal = seal_asked verify.seal;
+  seal = verify.seal;
 }

@@ -24,8 +24,9 @@ use Rattle.journal_audit.specs.declared.commands.fault.CommandFault.TheVariants.
 -- the line of a fault: the name of its part, and what that part prints of it
 abbrev pub told_fault : CommandFault → Option (List ℕ)
 told_fault (Trial fault) = told_trial fault
-told_fault (Journal fault _) = Some (codes "fault journal " ++ printed_journal_fault fault)
-told_fault (Migrate cause _) = Some (codes "fault migrate " ++ printed_cause cause)
+told_fault (Journal refused _) =
+    Some (codes "fault journal " ++ printed_journal_fault refused.cause)
+told_fault (Migrate refused _) = Some (codes "fault migrate " ++ printed_cause refused.cause)
 told_fault (Header fault) = Some (codes "fault header " ++ printed_header_fault fault)
 told_fault (Seal fault) = Some (codes "fault seal " ++ printed_seal_fault fault)
 told_fault (Gate fault) = Some (codes "fault gate " ++ printed_gate_fault fault)

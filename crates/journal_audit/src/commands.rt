@@ -2,10 +2,10 @@
 
 pub(crate) mod balances;
 pub(crate) mod behind;
-pub(crate) mod explanation;
 pub(crate) mod fault;
 pub(crate) mod history;
 pub(crate) mod journals;
 pub(crate) mod output;
+pub(crate) mod second_line;
 pub(crate) mod settled;
 pub(crate) mod verify;

@@ -7,7 +7,7 @@ ghost use Rattle.journal_audit.specs.Texts.{printed_gate_fault};
 
 use std::alloc::{AllocError, AllocFailed};
 use std::fmt;
-use tap_journal::JournalFault;
+use tap_journal::Refused;
 use text_io::WriteFault;
 use thiserror::Error;
 
@@ -58,7 +58,7 @@ pub enum AuditFault {
     Write,
     /// The bytes are no journal that can be opened with these tables.
     #[error("{0}")]
-    Journal(JournalFault),
+    Journal(Refused),
     /// The journal's header doesn't say what is expected of it.
     #[error("{0}")]
     Header(HeaderFault),
@@ -149,11 +149,11 @@ impl From<WriteFault> for AuditFault {
     }
 }
 
-impl From<JournalFault> for AuditFault {
+impl From<Refused> for AuditFault {
     ghost from_gives = { λ given fault. fault ≡ cause.Journal given };
 
-    fn from(fault: JournalFault) -> AuditFault {
-        AuditFault::Journal(fault)
+    fn from(refused: Refused) -> AuditFault {
+        AuditFault::Journal(refused)
     }
 }
 

@@ -7,6 +7,7 @@ use crate::refusal::{journal_refusal, missing_refusal};
 use crate::standby::{JournalLock, refused_journal, take_journal};
 use command_line::Serve;
 use console::{Detail, Refusal};
+use fare_table::Digest;
 use journal_audit::CommandFault;
 use std::alloc::Global;
 use std::fs::{self, File};
@@ -14,7 +15,7 @@ use std::rt::Files;
 use std::thread;
 use std::time::{Clock, Duration};
 use tap_disk::{Disk, FileDisk, SystemError};
-use tap_journal::{DIGEST_SIZE, JournalFault};
+use tap_journal::{JournalFault, Refused};
 
 /// How many seconds a server on standby waits between two tries.
 const PAUSE: u64 = 1;
@@ -78,7 +79,7 @@ impl<R: AllocGlobal + Files<File = File> + Clock + Eprint> JournalLock<FileDisk>
 /// of no touches is made there, for the first table of this digest, and told of.
 pub(crate) fn journal_disk<R: AllocGlobal + Files<File = File> + Clock + Eprint>(
     rt: &R,
-    digest: &[u8; DIGEST_SIZE],
+    digest: &Digest,
     asked: &Serve<'_>,
 ) -> Result<FileDisk, CommandFault> {
     let mut file = JournalPath {
@@ -98,7 +99,7 @@ pub(crate) fn journal_disk<R: AllocGlobal + Files<File = File> + Clock + Eprint>
 fn made_disk<R: AllocGlobal + Files<File = File> + Eprint>(
     rt: &R,
     disk: FileDisk,
-    digest: &[u8; DIGEST_SIZE],
+    digest: &Digest,
     asked: &Serve<'_>,
 ) -> Result<FileDisk, CommandFault> {
     match prepare(disk, digest, asked) {
@@ -127,10 +128,15 @@ pub(crate) fn device_fault(
     said: Option<SystemError>,
 ) -> CommandFault {
     match (&fault, said) {
-        (CommandFault::Journal(JournalFault::Device, _), Some(error)) => {
+        (CommandFault::Journal(refused, _), Some(error)) if is_of_device(*refused) => {
             let detail = Detail::of(alloc, asked.journal, &error);
             fault.with(detail)
         }
         _ => fault,
     }
+}
+
+/// Whether a journal is refused since its disk failed.
+fn is_of_device(refused: Refused) -> bool {
+    matches!(refused.cause, JournalFault::Device)
 }

@@ -7,9 +7,10 @@ ghost use Rattle.tap_journal.specs.Left.{AllLeft, OnlyRead};
 ghost use Rattle.journal_service.specs.Prepared.{IsUnmade, WasEmpty};
 
 use command_line::Serve;
+use fare_table::Digest;
 use journal_audit::CommandFault;
 use tap_disk::Disk;
-use tap_journal::{DIGEST_SIZE, Journal, JournalFault};
+use tap_journal::{Journal, JournalFault};
 
 /// A disk that is ready to be opened.
 #[derive(Drop)]
@@ -38,7 +39,7 @@ pub enum Unprepared<D> {
 /// that are out of their limits.
 pub fn prepare<D: Disk>(
     disk: D,
-    digest: &[u8; DIGEST_SIZE],
+    digest: &Digest,
     asked: &Serve<'_>,
 ) -> Result<Prepared<D>, Unprepared<D>>
     // A server that is strict makes nothing, and writes nothing.

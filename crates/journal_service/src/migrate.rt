@@ -15,8 +15,8 @@ ghost use Rattle.journal_service.specs.Carried.{HasCarried};
 use crate::disks::{JournalFiles, SystemDisks};
 use command_line::Migrate;
 use console::WholeFiles;
-use journal_audit::{CommandFault, OpenedBy, explained, tell_end};
-use reply_book::NameHashing;
+use fare_table::Digest;
+use journal_audit::{CommandFault, explained, tell_end};
 use std::alloc::Global;
 use std::fs::File;
 use std::io;
@@ -25,7 +25,7 @@ use std::process::ExitCode;
 use std::rt::Files;
 use table_check::first_table;
 use tap_disk::Disk;
-use tap_journal::Journal;
+use tap_journal::{Journal, NotCarried};
 use text_io::RunFault;
 
 /// Carries a journal of the first format over to a new file, and writes how many touches it has.
@@ -65,10 +65,9 @@ pub fn migrate_journal<
     }
 }
 
-/// The same, from one file of the system to another, with what stands behind the line of a fault.
+/// The same, from one file of the system to another, with the second line of a fault.
 pub fn explained_migrate<R: AllocGlobal + Files<File = File> + Eprint, F: WholeFiles, W: Write>(
     rt: &R,
-    hashing: NameHashing,
     files: &F,
     asked: &Migrate<'_>,
     output: &mut W,
@@ -76,8 +75,8 @@ pub fn explained_migrate<R: AllocGlobal + Files<File = File> + Eprint, F: WholeF
     match migrate_journal(rt, files, &SystemDisks::new(rt), asked, output) {
         Ok(status) => Ok(status),
         Err(fault) => {
-            let opened = OpenedBy::migrate(asked);
-            Err(explained(rt.alloc(), hashing, files, opened, fault))
+            let table = Some(asked.table);
+            Err(explained(rt.alloc(), asked.from, table, fault))
         }
     }
 }
@@ -88,7 +87,7 @@ fn carry_over<D: Disk, S: JournalFiles<D>>(
     alloc: Global,
     disks: &S,
     asked: &Migrate<'_>,
-    digest: &[u8; 32],
+    digest: &Digest,
 ) -> Result<u32, CommandFault>
     ensures ok { IfOk result (HasCarried D.honest D.content D.outcome
         (S.opened_alone disks.now) (S.opened disks.now) asked.now digest.now) }
@@ -97,7 +96,11 @@ fn carry_over<D: Disk, S: JournalFiles<D>>(
     let target = disks.open(asked.to)?;
     match Journal::migrate(alloc, source, target, asked.cards, digest) {
         Ok((_, _, touches)) => Ok(touches),
-        Err(fault) => Err(fault.cause.into()),
+        Err(fault) => Err(NotCarried {
+            cause: fault.cause,
+            found: fault.found,
+        }
+        .into()),
     }
 }
 

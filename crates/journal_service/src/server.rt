@@ -17,7 +17,7 @@ use command_line::Serve;
 use console::{Detail, LimitedFiles, SystemFiles};
 use door_check::door_of;
 use fare_schedule::Schedule;
-use journal_audit::{CommandFault, OpenedBy, explained, look_behind, tell_behind};
+use journal_audit::{CommandFault, explained, look_behind, tell_behind};
 use money_time::Zone;
 use office_lines::{
     GateLine, Lines, Notices, Post, ServeFault, Service, TcpLines, Watch, Watched, serve_office,
@@ -35,7 +35,7 @@ use std::rt::Files;
 use std::time::Duration;
 use table_check::{first_table, schedule_of};
 use tap_disk::{Disk, FileDisk, SystemError};
-use tap_journal::OpenFault;
+use tap_journal::{OpenFault, Refused};
 use tap_office::{CloseCause, Desk, Named, Office, Opening, Seat};
 use tcp_line::TcpLine;
 use text_io::RunFault;
@@ -148,23 +148,22 @@ fn read_opening<D: Disk + Drop, R: AllocGlobal + Files>(
             look_behind(rt.alloc(), asked.journal, opening.behind(), asked.strict)?;
             Ok(opening)
         }
-        Err(OpenFault { disk, cause }) => {
-            Err(unopened_fault(rt, hashing, asked, cause.into(), disk.error()))
+        Err(OpenFault { disk, cause, found }) => {
+            let refused = Refused { cause, found };
+            Err(unopened_fault(rt.alloc(), asked, refused, disk.error()))
         }
     }
 }
 
-/// The fault of a journal that isn't opened, with what stands behind its line.
-fn unopened_fault<R: AllocGlobal + Files>(
-    rt: &R,
-    hashing: NameHashing,
+/// The fault of a journal that isn't opened, with its second line.
+fn unopened_fault(
+    alloc: Global,
     asked: &Serve<'_>,
-    fault: CommandFault,
+    refused: Refused,
     said: Option<SystemError>,
 ) -> CommandFault {
-    let fault = device_fault(rt.alloc(), asked, fault, said);
-    let files = SystemFiles::new(rt);
-    explained(rt.alloc(), hashing, &files, OpenedBy::serve(asked), fault)
+    let fault = device_fault(alloc, asked, refused.into(), said);
+    explained(alloc, asked.journal, Some(asked.table), fault)
 }
 
 /// Makes the office of an opening, by its name, listens, and serves it.

@@ -4,7 +4,7 @@ use crate::days::Days;
 use crate::journal::write_statement;
 use command_line::Statement;
 use console::WholeFiles;
-use journal_audit::{CommandFault, OpenedBy, Settled, explained, settled_file, tell_many};
+use journal_audit::{CommandFault, Settled, explained, settled_file, tell_many};
 use reply_book::NameHashing;
 use std::io::Write;
 use std::process::ExitCode;
@@ -54,16 +54,9 @@ pub fn explained_statement<R: AllocGlobal + Eprint, F: WholeFiles, W: Write>(
 ) -> Result<ExitCode, CommandFault> {
     match tell_statement(rt, hashing, files, asked, output) {
         Ok(status) => Ok(status),
-        Err(fault) => Err(explained(rt.alloc(), hashing, files, opened_by(asked), fault)),
-    }
-}
-
-/// The arguments by which the journal was opened.
-fn opened_by<'a>(asked: &'a Statement<'a>) -> OpenedBy<'a> {
-    OpenedBy {
-        table: Some(asked.table),
-        revisions: asked.revisions.as_slice(),
-        journal: asked.journal,
-        cards: None,
+        Err(fault) => {
+            let table = Some(asked.table);
+            Err(explained(rt.alloc(), asked.journal, table, fault))
+        }
     }
 }

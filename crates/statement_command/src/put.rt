@@ -4,7 +4,8 @@ ghost use Rattle.std.specs.Prelude.{◌≡◌, ◌++◌, ◌∷◌, [], OnOk};
 ghost use Rattle.journal_audit.specs.Calendar.{day_text, moment_text};
 ghost use Rattle.statement_command.specs.Csv.{day_field, moment_field};
 
-use journal_audit::{DAY_SECONDS, DayPrinter, clock};
+use journal_audit::{DayPrinter, clock};
+use money_time::DAY_SECONDS;
 use std::alloc::{AllocError, Global};
 
 /// A text, and what prints its days.

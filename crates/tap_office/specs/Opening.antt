@@ -1,7 +1,7 @@
 -- What contracts see of an opening, and of the seats that it makes (OFFICE.md, "An opening";
 -- this project's choice).
-use Rattle.std.specs.Prelude.{◌≡◌, ◌⊎◌, ℕ, ◌+◌, ◌≤◌, ◌<◌, List, [], length, false, Some}
-use Rattle.std.specs.Prelude.{Result, Ok, Err, Option, slice_index_or}
+use Rattle.std.specs.Prelude.{◌≡◌, ◌⊎◌, ℕ, ℤ, ◌+◌, ◌≤◌, ◌<◌, List, [], length, Bool, false, Some}
+use Rattle.std.specs.Prelude.{Result, Ok, Err, Option, None, slice_index_or}
 use Rattle.std.specs.List.{All}
 use Rattle.logbook.specs.Pages.{Book as Logbook}
 use Rattle.fare_table.specs.Fares.{digest_of}
@@ -13,15 +13,21 @@ use Rattle.tap_journal.specs.declared.fault.JournalFault.{JournalFault}
 use Rattle.tap_journal.specs.declared.fault.JournalFault.TheVariants.{Memory, Device, Damaged}
 use Rattle.tap_journal.specs.declared.fault.JournalFault.TheVariants.{NoDesk, MissingTable}
 use Rattle.tap_journal.specs.declared.fault.OpenFault.{OpenFault}
+use Rattle.tap_journal.specs.declared.fault.Refused.{Refused}
+use Rattle.tap_journal.specs.declared.fault.Discrepancy.{Discrepancy}
+use Rattle.tap_journal.specs.declared.fault.Discrepancy.TheVariants.{Revision}
 use Rattle.tap_journal.specs.Layout.{Header, header_of}
 use Rattle.tap_journal.specs.Image.{Image}
 use Rattle.tap_journal.specs.Opening.{HasCause}
+use Rattle.tap_journal.specs.Found.{found_in}
 use Rattle.tap_journal.specs.Crash.{Stands, capacity_of, is_stopped}
 use Rattle.reply_book.specs.declared.entry.Entry.{Entry}
 use Rattle.reply_book.specs.declared.book.Book.{Book}
 use Rattle.reply_book.specs.declared.book.TheConstants.{CARD_LIMIT}
 use Rattle.reply_book.specs.Tables.{Tables, AreKnown}
-use Rattle.reply_book.specs.Replay.{IsRepeatedAt, IsMissingAt}
+use Rattle.reply_book.specs.declared.fault.ReplayFault.{ReplayFault}
+use Rattle.reply_book.specs.declared.fault.ReplayFault.TheVariants as faults
+use Rattle.reply_book.specs.Replay.{IsRepeatedAt, IsMissingAt, IsRevisionAt}
 use Rattle.reply_book.specs.Book.{entries_of, cards_of, tables_of, Stands as BookStands}
 use Rattle.reply_book.specs.Legal.{touches_of, history_of, IsLegal}
 use Rattle.tap_desk.specs.declared.commit_log.CommitLog.{CommitLog}
@@ -118,6 +124,40 @@ pub record IsNoBook (tables : Tables) (cards : ℕ) (content : List ℕ) (fault 
 abbrev pub HasOpenCause : Tables → ℕ → List ℕ → JournalFault → Type 0
 HasOpenCause tables cards content fault =
     HasCause cards (digest_of tables.first) content fault ⊎ IsNoBook tables cards content fault
+
+-- what a fault of the book is to whoever opens its journal
+abbrev pub refused_touch : ReplayFault → Refused
+refused_touch faults.Memory = record { cause = Memory; found = None }
+refused_touch (faults.Repeated place) = record { cause = Damaged place; found = None }
+refused_touch (faults.MissingTable place day accepted digest) =
+    record { cause = MissingTable place; found = Some (Revision day accepted digest) }
+
+-- what was found is the revision at this place of the touches, and how it is judged after the book
+-- of those before it
+pub record IsRevisionFound (tables : Tables) (cards : ℕ) (touches : List Touch) (place : ℕ)
+    (found : Option Discrepancy) : Type 0 where
+  pub day : ℤ
+  pub accepted : Bool
+  pub digest : List ℕ
+  pub is : found ≡ Some (Revision day accepted digest)
+  pub revision : IsRevisionAt tables cards touches place day accepted digest
+
+-- this was found beside a cause for which no book enters the touches: of a table that isn't there
+-- the revision to it, and of any other nothing
+abbrev pub IsTouchFound : Tables → ℕ → List Touch → JournalFault → Option Discrepancy → Type 0
+IsTouchFound tables cards touches (MissingTable place) found =
+    IsRevisionFound tables cards touches place found
+IsTouchFound tables cards touches _ found = found ≡ None
+
+-- this was found beside a cause for which the content can't be opened: of a table that isn't there
+-- the revision to it, and of any other what the header has and what was given
+abbrev pub IsFound : Tables → ℕ → List ℕ → JournalFault → Option Discrepancy → Type 0
+IsFound tables cards content (MissingTable place) found =
+    (capacity : ℕ) × (touches : List Touch)
+    × Image (header_by capacity cards tables) touches content
+    × IsRevisionFound tables cards touches place found
+IsFound tables cards content cause found =
+    found ≡ found_in cards (digest_of tables.first) content cause
 
 -- memory was refused or the disk failed
 abbrev pub IsWant : JournalFault → Type 0

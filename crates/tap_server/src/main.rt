@@ -90,7 +90,7 @@ fn done<
             let _held = standard_files(rt);
             serve_gates(rt, hashing, &asked)
         }
-        Arguments::Migrate(asked) => explained_migrate(rt, hashing, &files, &asked, output),
+        Arguments::Migrate(asked) => explained_migrate(rt, &files, &asked, output),
         Arguments::Verify(asked) => explained_verify(rt, hashing, &files, &asked, output),
         Arguments::History(asked) => explained_history(rt, hashing, &files, &asked, output),
         Arguments::Balances(asked) => explained_balances(rt, hashing, &files, &asked, output),

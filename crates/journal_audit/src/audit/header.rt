@@ -3,8 +3,8 @@
 ghost use Rattle.std.specs.Prelude.{IfErr, IfNone, IfSome, OnOk};
 ghost use Rattle.journal_audit.specs.Expected.{IsAsExpected, IsOther, IsExpected, HasHeaderCause};
 
-use crate::audit::seal::Seal;
 use crate::fault::HeaderFault;
+use command_line::Seal;
 
 /// What is asked of a journal beside that it is sound.
 #[derive(Clone, Copy, Debug, PartialEq, Eq)]

@@ -6,7 +6,8 @@ ghost use Rattle.journal_audit.specs.AuditLines.{text_of_contents, behind_text, 
 ghost use Rattle.journal_audit.specs.AuditLines.{seals_text, version_number};
 
 use crate::audit::finding::{finding_of, last_line};
-use crate::audit::seal::{Sealed, Seals};
+use crate::audit::seal::Seals;
+use command_line::Sealed;
 use std::alloc::{AllocError, Global};
 use tap_journal::{Contents, Format};
 

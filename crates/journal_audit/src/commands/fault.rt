@@ -1,6 +1,6 @@
 //! Why a command didn't do what it was asked for, and what is told of it on standard error.
 
-ghost use Rattle.std.specs.Prelude.{◌≡◌};
+ghost use Rattle.std.specs.Prelude.{◌≡◌, None};
 ghost use Rattle.text_io.specs.declared.fault.RunFault.TheVariants.{Memory};
 ghost use Rattle.console.specs.Detail.{no_detail};
 ghost use Rattle.console.specs.declared.fault.TrialFault.TheVariants.{Run};
@@ -17,7 +17,7 @@ use door_file::DoorFault;
 use std::alloc::AllocError;
 use std::process::ExitCode;
 use std::{fmt, io};
-use tap_journal::{JournalFault, MigrateCause};
+use tap_journal::{JournalFault, NotCarried, Refused};
 use text_io::RunFault;
 use thiserror::Error;
 
@@ -28,9 +28,9 @@ pub enum CommandFault {
     /// run ended early.
     Trial(TrialFault),
     /// The journal can't be made or opened.
-    Journal(JournalFault, Detail),
+    Journal(Refused, Detail),
     /// The journal can't be carried over to the new file.
-    Migrate(MigrateCause, Detail),
+    Migrate(NotCarried, Detail),
     /// The journal's header doesn't say what is expected of it.
     Header(HeaderFault),
     /// The journal isn't the one that was sealed.
@@ -71,8 +71,14 @@ impl fmt::Display for CommandFault {
     fn fmt<W: fmt::Write>(&self, f: &mut fmt::Formatter<W>) -> fmt::Result {
         match self {
             CommandFault::Trial(fault) => write!(f, "{fault}"),
-            CommandFault::Journal(fault, _) => write!(f, "fault journal {fault}"),
-            CommandFault::Migrate(cause, _) => write!(f, "fault migrate {cause}"),
+            CommandFault::Journal(refused, _) => {
+                let cause = refused.cause;
+                write!(f, "fault journal {cause}")
+            }
+            CommandFault::Migrate(refused, _) => {
+                let cause = refused.cause;
+                write!(f, "fault migrate {cause}")
+            }
             CommandFault::Header(fault) => write!(f, "fault header {fault}"),
             CommandFault::Seal(fault) => write!(f, "fault seal {fault}"),
             CommandFault::Gate(fault) => write!(f, "fault gate {fault}"),
@@ -111,8 +117,8 @@ impl CommandFault {
         ensures { told_fault result ≡ told_fault self }
     {
         match self {
-            CommandFault::Journal(fault, _) => CommandFault::Journal(fault, detail),
-            CommandFault::Migrate(cause, _) => CommandFault::Migrate(cause, detail),
+            CommandFault::Journal(refused, _) => CommandFault::Journal(refused, detail),
+            CommandFault::Migrate(refused, _) => CommandFault::Migrate(refused, detail),
             fault => fault,
         }
     }
@@ -159,18 +165,28 @@ impl From<AllocError> for CommandFault {
 }
 
 impl From<JournalFault> for CommandFault {
-    ghost from_gives = { λ given fault. fault ≡ Journal given no_detail };
+    ghost from_gives = { λ given fault. fault
+        ≡ Journal (record { cause = given; found = None }) no_detail };
 
-    fn from(fault: JournalFault) -> CommandFault {
-        CommandFault::Journal(fault, Detail::none())
+    fn from(cause: JournalFault) -> CommandFault {
+        let refused = Refused { cause, found: None };
+        CommandFault::Journal(refused, Detail::none())
     }
 }
 
-impl From<MigrateCause> for CommandFault {
+impl From<Refused> for CommandFault {
+    ghost from_gives = { λ given fault. fault ≡ Journal given no_detail };
+
+    fn from(refused: Refused) -> CommandFault {
+        CommandFault::Journal(refused, Detail::none())
+    }
+}
+
+impl From<NotCarried> for CommandFault {
     ghost from_gives = { λ given fault. fault ≡ Migrate given no_detail };
 
-    fn from(cause: MigrateCause) -> CommandFault {
-        CommandFault::Migrate(cause, Detail::none())
+    fn from(refused: NotCarried) -> CommandFault {
+        CommandFault::Migrate(refused, Detail::none())
     }
 }
 
@@ -181,7 +197,7 @@ impl From<AuditFault> for CommandFault {
         match fault {
             AuditFault::Memory => RunFault::Memory.into(),
             AuditFault::Write => RunFault::Write.into(),
-            AuditFault::Journal(fault) => fault.into(),
+            AuditFault::Journal(refused) => refused.into(),
             AuditFault::Header(fault) => CommandFault::Header(fault),
             AuditFault::Seal(fault) => CommandFault::Seal(fault),
             AuditFault::Gate(fault) => CommandFault::Gate(fault),

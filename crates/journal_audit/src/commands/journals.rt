@@ -1,9 +1,9 @@
-//! The commands over a journal, each with what stands behind the line of its fault.
+//! The commands over a journal, each with the second line of its fault.
 
 use crate::commands::balances::tell_balances;
-use crate::commands::explanation::{OpenedBy, explained};
 use crate::commands::fault::CommandFault;
 use crate::commands::history::tell_history;
+use crate::commands::second_line::explained;
 use crate::commands::verify::verify_journal;
 use command_line::{Balances, History, Verify};
 use console::WholeFiles;
@@ -21,10 +21,7 @@ pub fn explained_verify<R: AllocGlobal + Eprint, F: WholeFiles, W: Write>(
 ) -> Result<ExitCode, CommandFault> {
     match verify_journal(rt, hashing, files, asked, output) {
         Ok(status) => Ok(status),
-        Err(fault) => {
-            let opened = OpenedBy::verify(asked);
-            Err(explained(rt.alloc(), hashing, files, opened, fault))
-        }
+        Err(fault) => Err(explained(rt.alloc(), asked.journal, asked.table, fault)),
     }
 }
 
@@ -38,10 +35,7 @@ pub fn explained_history<R: AllocGlobal + Eprint, F: WholeFiles, W: Write>(
 ) -> Result<ExitCode, CommandFault> {
     match tell_history(rt, hashing, files, asked, output) {
         Ok(status) => Ok(status),
-        Err(fault) => {
-            let opened = OpenedBy::history(asked);
-            Err(explained(rt.alloc(), hashing, files, opened, fault))
-        }
+        Err(fault) => Err(explained(rt.alloc(), asked.journal, Some(asked.table), fault)),
     }
 }
 
@@ -55,9 +49,6 @@ pub fn explained_balances<R: AllocGlobal + Eprint, F: WholeFiles, W: Write>(
 ) -> Result<ExitCode, CommandFault> {
     match tell_balances(rt, hashing, files, asked, output) {
         Ok(status) => Ok(status),
-        Err(fault) => {
-            let opened = OpenedBy::balances(asked);
-            Err(explained(rt.alloc(), hashing, files, opened, fault))
-        }
+        Err(fault) => Err(explained(rt.alloc(), asked.journal, Some(asked.table), fault)),
     }
 }

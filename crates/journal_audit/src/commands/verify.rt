@@ -4,7 +4,7 @@ ghost use Rattle.std.specs.Prelude.{◌≡◌, ◌⊎◌, [], IfOk, IfErr, IfSom
 ghost use Rattle.std.specs.Process.{exit_status};
 ghost use Rattle.fare_schedule.specs.Schedule.{revisions_of};
 ghost use Rattle.reply_book.specs.Tables.{tables_in as tables_by};
-ghost use Rattle.journal_audit.specs.Command.{asked_by, seal_asked, sealed_named};
+ghost use Rattle.journal_audit.specs.Command.{asked_by};
 ghost use Rattle.journal_audit.specs.Verified.{AreTablesAsked, AreTablesRefused, IsUnread};
 ghost use Rattle.journal_audit.specs.Verified.{status_of, IsVerified, HasVerified};
 ghost use Rattle.journal_audit.specs.Verified.{HasEndedEarly, HasVerifiedAs, IsUnverifiedAs};
@@ -13,11 +13,10 @@ ghost use Rattle.journal_audit.specs.Verified.{HasVerifiedFile, HasEndedFileEarl
 use crate::audit::audit_journal;
 use crate::audit::finding::Finding;
 use crate::audit::header::Asked;
-use crate::audit::seal::{Seal, Sealed};
 use crate::commands::fault::CommandFault;
 use crate::commands::settled::settled_file;
 use crate::gate_file::audit_gate_file;
-use command_line::{Seal as AskedSeal, Sealed as NamedSeal, Verify};
+use command_line::Verify;
 use console::{TrialFault, WholeFiles};
 use fare_schedule::Schedule;
 use reply_book::NameHashing;
@@ -135,31 +134,6 @@ fn asked_of(asked: &Verify<'_>) -> Asked
     Asked {
         capacity: asked.expect_capacity,
         cards: asked.expect_cards,
-        seal: seal_of(asked.seal),
-    }
-}
-
-/// What an audit is asked of the seals.
-fn seal_of(asked: AskedSeal) -> Seal
-    ensures { result ≡ seal_asked asked }
-{
-    let kept = match asked.kept {
-        Some(kept) => Some(sealed_of(kept)),
-        None => None,
-    };
-    Seal {
-        kept,
-        is_made: asked.made,
-    }
-}
-
-/// The seal that a command line names.
-fn sealed_of(sealed: NamedSeal) -> Sealed
-    ensures { result ≡ sealed_named sealed }
-{
-    let digest = sealed.digest;
-    Sealed {
-        touches: sealed.touches,
-        digest,
+        seal: asked.seal,
     }
 }

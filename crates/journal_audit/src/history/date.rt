@@ -11,9 +11,6 @@ use arrayvec::ArrayString;
 use jiff_core::civil::Date;
 use jiff_fmt::temporal::DateTimePrinter;
 
-/// The seconds of a day.
-pub const DAY_SECONDS: u32 = 86_400;
-
 /// The most bytes of a day: a date of a year before 0 has 13.
 pub const DAY_LIMIT: usize = 13;
 /// The bytes of a second of the day.

@@ -6,6 +6,7 @@ ghost use Rattle.fare_schedule.specs.Schedule.{revisions_of};
 
 mod failing;
 
+use super::{journal_fault, table_fault};
 use fare_schedule::Schedule;
 use fare_table::{EXAMPLE_TABLE, Fares};
 use journal_audit::{AuditFault, Totals, write_balances};
@@ -308,7 +309,7 @@ fn the_first_cause_is_told_and_no_balance_is_written(rt: HostRuntime) -> Result<
     if let Some(number) = bytes.get_mut(263) {
         *number = 2;
     }
-    let damaged = AuditFault::Journal(JournalFault::Damaged(3));
+    let damaged = journal_fault(JournalFault::Damaged(3));
     for (at, want) in [
         (Some(5), AuditFault::Place(4)),
         (Some(4), damaged),
@@ -318,14 +319,16 @@ fn the_first_cause_is_told_and_no_balance_is_written(rt: HostRuntime) -> Result<
     }
     let (_, ended) = told(alloc, Some(3), &bytes)?;
     assert_same(&rt, ended.is_ok(), true);
+    let mut made = EXAMPLE_DIGEST;
+    made[0] = 0;
     for (place, want) in [
-        (17, JournalFault::WrongTable),
-        (0, JournalFault::NotAJournal),
+        (17, table_fault(made, EXAMPLE_DIGEST)),
+        (0, journal_fault(JournalFault::NotAJournal)),
     ] {
         if let Some(byte) = bytes.get_mut(place) {
             *byte = 0;
         }
-        assert_refused(&rt, Some(5), &bytes, AuditFault::Journal(want))?;
+        assert_refused(&rt, Some(5), &bytes, want)?;
     }
     Ok(())
 }

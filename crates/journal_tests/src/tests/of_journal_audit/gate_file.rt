@@ -1,8 +1,9 @@
 //! What no clause says of audits of gates' files: worked files with their lines and seals, and what
 //! is told of each other one. The digests are those of Python's hashlib.
 
+use command_line::{Seal, Sealed};
 use journal_audit::{
-    Asked, AuditFault, Finding, GateFault, HeaderFault, Seal, SealFault, Sealed, audit_gate_file,
+    Asked, AuditFault, Finding, GateFault, HeaderFault, SealFault, audit_gate_file,
 };
 use std::alloc::Global;
 use std::fmt::Debug;
@@ -37,7 +38,7 @@ fn asking(capacity: Option<u32>, cards: Option<u32>) -> Asked {
         cards,
         seal: Seal {
             kept: None,
-            is_made: false,
+            made: false,
         },
     }
 }
@@ -151,10 +152,10 @@ fn a_gates_file_is_sealed_and_held_against_its_seal(rt: HostRuntime) -> Result<(
         .ok()
         .ok_or("a digest")?;
     let mut asked = asking(None, None);
-    asked.seal.is_made = true;
+    asked.seal.made = true;
     let lines = format!(in rt.alloc(); "{LINES}sealed 2 {DIGEST}\nsound\n")?;
     assert_told(&rt, asked, &FILE, Ok(Finding::Sound), lines.as_str())?;
-    asked.seal.is_made = false;
+    asked.seal.made = false;
     asked.seal.kept = Some(Sealed { touches: 2, digest });
     assert_told(&rt, asked, &FILE, Ok(Finding::Sound), lines.as_str())?;
     let changed = Err(AuditFault::Seal(SealFault::Changed));

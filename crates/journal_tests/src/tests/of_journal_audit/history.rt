@@ -9,9 +9,11 @@ mod memory;
 mod verdicts;
 mod writing;
 
+use super::{journal_fault, table_fault};
+use command_line::HistoryFormat;
 use fare_schedule::Schedule;
 use fare_table::{EXAMPLE_TABLE, Fares};
-use journal_audit::{AuditFault, HistoryFormat, Wanted, write_history};
+use journal_audit::{AuditFault, Wanted, write_history};
 use reply_book::NameHashing;
 use std::alloc::{AllocError, Global};
 use std::fmt::Debug;
@@ -23,6 +25,11 @@ use tap_journal::JournalFault;
 const HEADER: &str = "a54f59535445524a32000000640000000a\
     1708bef1d8124f49753d74c29fa7192b3da703a42481f59504b76a41ec002428\
     000000000000000000000000000000";
+
+/// The digest of the example table's text.
+const EXAMPLE_DIGEST: [u8; 32] =
+    *b"\x17\x08\xbe\xf1\xd8\x12\x4f\x49\x75\x3d\x74\xc2\x9f\xa7\x19\x2b\
+    \x3d\xa7\x03\xa4\x24\x81\xf5\x95\x04\xb7\x6a\x41\xec\x00\x24\x28";
 
 /// The frames of an issue at 07:50 on Monday 2025-01-06, a top-up of 2000, in at 2 at 08:00, and
 /// out at 1 at 08:25.
@@ -145,10 +152,10 @@ fn assert_refused<R: Abort + AllocGlobal>(
     rt: &R,
     format: HistoryFormat,
     bytes: &[u8],
-    want: JournalFault,
+    want: AuditFault,
 ) -> Result<(), Fail> {
     let (text, ended) = told(rt.alloc(), ALL, format, bytes)?;
-    assert_same(rt, ended, Err(AuditFault::Journal(want)));
+    assert_same(rt, ended, Err(want));
     assert_same(rt, text.as_str(), "");
     Ok(())
 }
@@ -192,7 +199,7 @@ fn assert_refused_with<R: Abort + AllocGlobal>(
     rt: &R,
     at: usize,
     byte: u8,
-    want: JournalFault,
+    want: AuditFault,
 ) -> Result<(), Fail> {
     let mut bytes = journal(rt.alloc(), false, &FRAMES).ok_or("a journal")?;
     *bytes.get_mut(at).ok_or("a byte")? = byte;
@@ -202,16 +209,19 @@ fn assert_refused_with<R: Abort + AllocGlobal>(
 #[test]
 fn the_first_cause_is_told_and_no_history_is_written(rt: HostRuntime) -> Result<(), Fail> {
     let alloc = rt.alloc();
-    let rows: [(usize, u8, JournalFault); 4] = [
-        (0, 0, JournalFault::NotAJournal),
-        (8, b'9', JournalFault::WrongVersion),
-        (17, 0, JournalFault::WrongTable),
-        (65, 9, JournalFault::Damaged(0)),
+    let mut made = EXAMPLE_DIGEST;
+    made[0] = 0;
+    let rows: [(usize, u8, AuditFault); 4] = [
+        (0, 0, journal_fault(JournalFault::NotAJournal)),
+        (8, b'9', journal_fault(JournalFault::WrongVersion)),
+        (17, 0, table_fault(made, EXAMPLE_DIGEST)),
+        (65, 9, journal_fault(JournalFault::Damaged(0))),
     ];
     for (at, byte, want) in rows {
         assert_refused_with(&rt, at, byte, want)?;
     }
     let [first, second, third, _] = FRAMES;
     let twice = journal(alloc, false, &[first, second, third, second]).ok_or("a journal")?;
-    assert_refused(&rt, HistoryFormat::Frames, &twice, JournalFault::Damaged(3))
+    let damaged = journal_fault(JournalFault::Damaged(3));
+    assert_refused(&rt, HistoryFormat::Frames, &twice, damaged)
 }

@@ -46,6 +46,7 @@ fn read_again(rt: &impl Abort, alloc: Global, disk: MemoryDisk, given: Given, ca
             OpenFault {
                 disk,
                 cause: JournalFault::Memory | JournalFault::Device,
+                found: _,
             },
         ) => Opening::read(
             alloc,

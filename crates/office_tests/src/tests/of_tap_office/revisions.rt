@@ -2,7 +2,7 @@
 use super::steps::{outcome_of, work, work_with, worked};
 use super::*;
 use tap_disk::Disk;
-use tap_journal::JournalFault;
+use tap_journal::{Discrepancy, JournalFault};
 
 /// A text of the example table, and what comes in its place.
 type Change = (&'static str, &'static str);
@@ -206,21 +206,31 @@ fn an_unknown_table_comes_behind_a_conflict_and_before_a_full_journal(rt: HostRu
     assert_same(&rt, outcome, worked(2, 2000, 2));
 }
 
-/// A journal of these touches isn't opened by these tables, for this cause. The disk is handed back
+/// What is found of a revision to the revised table, which isn't there.
+const fn revision(day: i32, is_accepted: bool) -> Option<Discrepancy> {
+    Some(Discrepancy::Revision {
+        day,
+        is_accepted,
+        digest: DIGEST,
+    })
+}
+
+/// A journal of these touches isn't opened by these tables, for this cause and with what was found
+/// beside it. The disk is handed back
 /// as it was.
 fn assert_refused(
     rt: &impl Abort,
     alloc: Global,
     touches: &[Touch],
     given: Given,
-    want: JournalFault,
+    want: (JournalFault, Option<Discrepancy>),
 ) -> MemoryDisk {
     let disk = disk_of(rt, alloc, 10, touches);
     let before = content_of(rt, alloc, &disk);
     let fault = read_with(rt, alloc, disk, given, CARDS, 1)
         .err()
         .expect(rt, "the disk was opened");
-    assert_same(rt, fault.cause, want);
+    assert_same(rt, (fault.cause, fault.found), want);
     assert_same(rt, fault.disk.failures(), 0);
     let after = content_of(rt, alloc, &fault.disk);
     assert_same(rt, after.as_slice(), before.as_slice());
@@ -230,7 +240,7 @@ fn assert_refused(
 #[test]
 fn a_journal_that_names_a_missing_table_is_not_opened(rt: HostRuntime) {
     let alloc = rt.alloc();
-    let want = JournalFault::MissingTable(4);
+    let want = (JournalFault::MissingTable(4), revision(20094, false));
     let disk = assert_refused(&rt, alloc, &missing_touches(), Given::Example, want);
     let (outcome, _disk) = work_with(&rt, alloc, disk, Given::Revised, &[]);
     assert_same(&rt, outcome, worked(6, 1650, 6));
@@ -243,22 +253,22 @@ fn the_first_faulty_touch_of_a_journal_is_told(rt: HostRuntime) {
         (
             [ISSUE, REVISE, ISSUE],
             Given::Example,
-            JournalFault::MissingTable(1),
+            (JournalFault::MissingTable(1), revision(20095, true)),
         ),
         (
             [ISSUE, ISSUE, REVISE],
             Given::Example,
-            JournalFault::Damaged(1),
+            (JournalFault::Damaged(1), None),
         ),
         (
             [ISSUE, TOP_UP, TAKEN],
             Given::Example,
-            JournalFault::Damaged(2),
+            (JournalFault::Damaged(2), None),
         ),
         (
             [ISSUE, REVISE, REVISE],
             Given::Revised,
-            JournalFault::Damaged(2),
+            (JournalFault::Damaged(2), None),
         ),
     ] {
         let _disk = assert_refused(&rt, alloc, &touches, given, want);

@@ -4,7 +4,7 @@
 ghost use Rattle.std.specs.Prelude.{◌≡◌, ◌<◌, ◌+◌, length};
 ghost use Rattle.reply_book.specs.Book.{entries_of, Stands};
 
-use super::revisions::revise;
+use super::revisions::{missing, revise};
 use super::rows::touch;
 use super::*;
 use money_time::Window;
@@ -106,7 +106,16 @@ fn a_touch_of_a_list_is_entered_with_its_stamp(rt: HostRuntime) {
 #[test]
 fn a_touch_that_is_not_entered_leaves_the_book(rt: HostRuntime) {
     let mut book = example_book(&rt, rt.alloc());
-    let missing = revise(6, 20095);
-    assert_not_entered(&rt, &mut book, 4, &missing, ReplayFault::MissingTable(4));
+    let fault = missing(4, 20095, true);
+    assert_not_entered(&rt, &mut book, 4, &revise(6, 20095), fault);
+    drop(book);
+}
+
+#[test]
+fn a_revision_to_a_missing_table_is_told_as_it_is_judged(rt: HostRuntime) {
+    // The card travelled on fare day 20094.
+    let mut book = example_book(&rt, rt.alloc());
+    let fault = missing(7, 20094, false);
+    assert_not_entered(&rt, &mut book, 7, &revise(6, 20094), fault);
     drop(book);
 }

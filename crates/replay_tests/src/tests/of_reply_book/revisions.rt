@@ -28,6 +28,16 @@ pub const fn revise(number: u32, day: i32) -> Touch {
     revise_to(number, REVISED_DIGEST, day)
 }
 
+/// The fault of a revision at this place to the revised table, which isn't there.
+pub const fn missing(place: u32, day: i32, is_accepted: bool) -> ReplayFault {
+    ReplayFault::MissingTable {
+        place,
+        day,
+        is_accepted,
+        digest: REVISED_DIGEST,
+    }
+}
+
 /// The row of a revision that gets this verdict.
 const fn revision_row(number: u32, day: i32, verdict: u8) -> Row {
     (
@@ -125,7 +135,7 @@ fn a_revised_fare_counts_from_its_day(rt: HostRuntime) {
 #[test]
 fn touches_of_no_book_are_told_by_their_place(rt: HostRuntime) {
     let [first, second, third, fourth] = first_touches();
-    let missing = revise(6, 20095);
+    let revision = revise(6, 20095);
     let rows = [
         // A repeat.
         (
@@ -143,15 +153,15 @@ fn touches_of_no_book_are_told_by_their_place(rt: HostRuntime) {
         // A table that is missing.
         (
             [first, second, third, fourth, revise(5, 20094)],
-            ReplayFault::MissingTable(4),
+            missing(4, 20094, false),
         ),
         (
-            [first, missing, third, fourth, first],
-            ReplayFault::MissingTable(1),
+            [first, revision, third, fourth, first],
+            missing(1, 20095, true),
         ),
         // Whichever comes first.
         (
-            [first, second, first, fourth, missing],
+            [first, second, first, fourth, revision],
             ReplayFault::Repeated(2),
         ),
         (

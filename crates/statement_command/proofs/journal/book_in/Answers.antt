@@ -17,7 +17,8 @@ returns-in_err-found-clause-fault c =
     rw (p.1, p.2) (subst (λ (b : List ℕ). IsRefused (tables_in c.args.schedule) (Some c.args.card) b
     (Journal c.in_err-found.field-0.0)) c.deref.ensures.value
     (refused-alone (Some (tables_in c.args.schedule)) c.deref.result.now (Some c.digest_of_first.result)
-    c.in_err-found.field-0.0 (ap (λ (d : List ℕ). Some d) c.digest_of_first.ensures) c.in_err-found.ensures.fault))
+    c.in_err-found.field-0.0 (ap (λ (d : List ℕ). Some d) c.digest_of_first.ensures) c.in_err-found.ensures.fault
+    c.in_err-found.ensures.discrepancy))
 
 -- the book has the touches that were read, and the card is one of the journal's
 pub returns-clause-ok : goal.returns-clause-ok

@@ -14,7 +14,7 @@ const TRIES: u32 = 10;
 fn is_of_memory(fault: &CommandFault) -> bool {
     match fault {
         CommandFault::Trial(TrialFault::Run(RunFault::Memory)) => true,
-        CommandFault::Journal(JournalFault::Memory, _) => true,
+        CommandFault::Journal(refused, _) => refused.cause == JournalFault::Memory,
         _ => false,
     }
 }

@@ -16,8 +16,7 @@ returns-in_err-schedule-clause-fault g c =
 pub returns-in_err-write_history-clause-fault : goal.returns-in_err-write_history-clause-fault
 returns-in_err-write_history-clause-fault g c =
     let named = rw c.as_slice.ensures.value at c.in_ok-schedule.ensures.ok in
-    let wanted = rw c.wanted_of-wanted.ensures at c.in_err-write_history.ensures in
-    let told = rw c.format_of-format.ensures at wanted in
+    let told = rw c.wanted_of-wanted.ensures at c.in_err-write_history.ensures in
     handed-on _ c.from_residual-in_err-write_history.result (audit_fault c.in_err-write_history.field-0.0)
     c.from_residual-in_err-write_history.ensures.1
     (inr (
@@ -34,8 +33,7 @@ returns-in_err-write_history-clause-fault g c =
 pub returns-clause-ok : goal.returns-clause-ok
 returns-clause-ok g c =
     let named = rw c.as_slice.ensures.value at c.in_ok-schedule.ensures.ok in
-    let wanted = rw c.wanted_of-wanted.ensures at c.in_ok-write_history.ensures in
-    let told = rw c.format_of-format.ensures at wanted in
+    let told = rw c.wanted_of-wanted.ensures at c.in_ok-write_history.ensures in
     record {
       tables = tables_in c.in_ok-schedule.schedule;
       named = named;

@@ -9,7 +9,7 @@ fn expecting(capacity: Option<u32>, cards: Option<u32>) -> Asked {
         cards,
         seal: Seal {
             kept: None,
-            is_made: false,
+            made: false,
         },
     }
 }
@@ -58,7 +58,7 @@ fn a_lowered_capacity_or_number_of_cards_is_told_with_both(rt: HostRuntime) -> R
         &with(&[(12, 1)]),
         "\nsound\n",
     )?;
-    let damaged = AuditFault::Journal(JournalFault::Damaged(1));
+    let damaged = journal_fault(JournalFault::Damaged(1));
     assert_refused(&rt, expecting(Some(9), None), &with(&[(129, 9)]), damaged)
 }
 

@@ -5,6 +5,7 @@ ghost use Rattle.fare_schedule.specs.Schedule.{revisions_of};
 
 use super::tables::{example, of_example};
 use super::*;
+use crate::tests::of_journal_audit::is_of_memory;
 use std::io::Cursor;
 
 /// How often an audit that was refused memory is begun again.
@@ -44,7 +45,7 @@ fn is_done(ended: Result<Finding, AuditFault>) -> Result<bool, Fail> {
     match ended {
         Ok(found) => Ok(found == Finding::Sound),
         Err(AuditFault::Memory) => Ok(false),
-        Err(AuditFault::Journal(JournalFault::Memory)) => Ok(false),
+        Err(AuditFault::Journal(refused)) if is_of_memory(refused) => Ok(false),
         Err(fault) => Err(fault.into()),
     }
 }

@@ -33,7 +33,7 @@ fn a_gate_and_number_that_stood_before_is_damage(rt: HostRuntime) -> Result<(), 
                 assert_sound(&rt, SOUND, &bytes, last)?;
             }
             Some(place) => {
-                let damaged = AuditFault::Journal(JournalFault::Damaged(place));
+                let damaged = journal_fault(JournalFault::Damaged(place));
                 assert_refused(&rt, SOUND, &bytes, damaged)?;
             }
         }

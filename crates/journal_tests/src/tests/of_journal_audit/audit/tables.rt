@@ -4,12 +4,17 @@ ghost use Rattle.std.specs.Prelude.{◌≡◌, [], IfSome};
 ghost use Rattle.fare_schedule.specs.Schedule.{revisions_of};
 
 use super::*;
+use crate::tests::of_journal_audit::{fault_with, table_fault};
 use fare_table::{EXAMPLE_TABLE, Fares};
+use tap_journal::Discrepancy;
 
 /// The digest of the example table's text.
 const EXAMPLE_DIGEST: [u8; 32] =
     *b"\x17\x08\xbe\xf1\xd8\x12\x4f\x49\x75\x3d\x74\xc2\x9f\xa7\x19\x2b\
     \x3d\xa7\x03\xa4\x24\x81\xf5\x95\x04\xb7\x6a\x41\xec\x00\x24\x28";
+
+/// The digest in the journal of two touches.
+const FILE_DIGEST: [u8; 32] = *b"0123456789abcdef0123456789abcdef";
 
 /// The slot of a revision of gate 7 with number 6, from fare day 20095 on, but for the table's
 /// digest.
@@ -58,7 +63,7 @@ fn ended(alloc: Global, bytes: &[u8]) -> Option<Result<Finding, AuditFault>> {
 #[test]
 fn a_journal_is_held_against_its_first_table(rt: HostRuntime) -> Result<(), Fail> {
     let alloc = rt.alloc();
-    let wrong = AuditFault::Journal(JournalFault::WrongTable);
+    let wrong = table_fault(FILE_DIGEST, EXAMPLE_DIGEST);
     let sound = Ok(Finding::Sound);
     assert_same(&rt, ended(alloc, &of_example()).ok_or("tables")?, sound);
     assert_same(&rt, ended(alloc, &FILE).ok_or("tables")?, Err(wrong));
@@ -69,14 +74,21 @@ fn a_journal_is_held_against_its_first_table(rt: HostRuntime) -> Result<(), Fail
 fn the_first_touch_that_no_opening_enters_is_told(rt: HostRuntime) -> Result<(), Fail> {
     let alloc = rt.alloc();
     let twice = over(of_example(), 135, &[1]);
-    let damaged = AuditFault::Journal(JournalFault::Damaged(1));
+    let damaged = journal_fault(JournalFault::Damaged(1));
     assert_same(&rt, ended(alloc, &twice).ok_or("tables")?, Err(damaged));
     // The second touch is a revision, to the first table and then to one that isn't there.
     let revised = revised();
     let sound = Ok(Finding::Sound);
     assert_same(&rt, ended(alloc, &revised).ok_or("tables")?, sound);
     let revised = over(revised, 140, &[0]);
-    let missing = AuditFault::Journal(JournalFault::MissingTable(1));
+    let mut digest = EXAMPLE_DIGEST;
+    digest[0] = 0;
+    let revision = Discrepancy::Revision {
+        day: 20_095,
+        is_accepted: true,
+        digest,
+    };
+    let missing = fault_with(JournalFault::MissingTable(1), revision);
     assert_same(&rt, ended(alloc, &revised).ok_or("tables")?, Err(missing));
     // Where no table is named, no revision is looked up.
     assert_sound(&rt, SOUND, &revised, "\nsound\n")

@@ -1,6 +1,7 @@
 //! Balances of which a write fails, or that are refused memory.
 
 use super::*;
+use crate::tests::of_journal_audit::is_of_memory;
 use std::io::Cursor;
 use test_streams::Taker;
 
@@ -76,7 +77,7 @@ fn balances_that_were_refused_memory_are_begun_again(rt: HostRuntime) -> Result<
             }
             None => {}
             Some(Err(AuditFault::Memory)) => {}
-            Some(Err(AuditFault::Journal(JournalFault::Memory))) => {}
+            Some(Err(AuditFault::Journal(refused))) if is_of_memory(refused) => {}
             Some(Err(fault)) => return Err(fault.into()),
         }
     }

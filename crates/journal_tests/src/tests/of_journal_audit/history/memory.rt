@@ -1,6 +1,7 @@
 //! A history that is refused memory.
 
 use super::*;
+use crate::tests::of_journal_audit::is_of_memory;
 use std::io::Cursor;
 
 /// How often a history that was refused memory is begun again.
@@ -39,7 +40,7 @@ fn a_history_that_was_refused_memory_is_begun_again(rt: HostRuntime) -> Result<(
             Some(Ok(())) => return Ok(()),
             None => {}
             Some(Err(AuditFault::Memory)) => {}
-            Some(Err(AuditFault::Journal(JournalFault::Memory))) => {}
+            Some(Err(AuditFault::Journal(refused))) if is_of_memory(refused) => {}
             Some(Err(fault)) => return Err(fault.into()),
         }
     }
