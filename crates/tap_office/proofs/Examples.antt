@@ -15,18 +15,10 @@ use Rattle.reply_book.proofs.CallerLemmas.{legal-none}
 use Rattle.tap_office.specs.Name.{Opened, nothing_opened}
 use Rattle.tap_office.specs.Room.{room_after, unless_repeat, room_in, IsRoomFor}
 use Rattle.tap_office.specs.declared.opening.TheConstants.{SEAT_LIMIT}
-use Rattle.tap_office.specs.declared.sync_times.TheConstants.{LONG_SYNC, ROW}
 
 -- an office has at most 64 seats
 most_seats : SEAT_LIMIT ≡ 64
 most_seats = refl
-
--- a sync of 50 microseconds takes long, and gates take turns behind four such commits in a row
-long_sync : LONG_SYNC ≡ 50_000
-long_sync = refl
-
-commits_in_a_row : ROW ≡ 4
-commits_in_a_row = refl
 
 -- ---- the room for a touch
 
