@@ -2,6 +2,7 @@
 
 ghost use Rattle.std.specs.Prelude.{IsTrue};
 
+mod moments;
 mod of_fare_schedule;
 mod of_fare_table;
 mod of_money_time;

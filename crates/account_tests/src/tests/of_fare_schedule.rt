@@ -3,7 +3,7 @@ mod in_force;
 mod memory;
 mod supply;
 
-use super::tables::{Change, changed, revise, revised, schedule_of, table};
+use super::tables::{Change, DEARER, EXAMPLE_DIGEST, changed, revise, revised, schedule_of, table};
 use super::{assert_same, assert_same_at, assert_that};
 use fare_schedule::{Schedule, SupplyFault};
 use fare_table::{EXAMPLE_TABLE, Fares};
@@ -11,19 +11,10 @@ use std::alloc::Global;
 use std::process::Abort;
 use std::test::Fail;
 
-/// The single fare of the zones 1 and 2, and the peak maximum, in the example and in the revised
-/// table.
-const DEARER: [Change; 2] = [
-    ("350, off_peak = 290", "380, off_peak = 300"),
-    ("maximum_peak = 900", "maximum_peak = 1000"),
-];
+/// The digest of the example table.
+const EXAMPLE: [u8; 32] = EXAMPLE_DIGEST;
 
-// The digests of the two tables by the system's `sha256sum`.
-const EXAMPLE: [u8; 32] = [
-    0x17, 0x08, 0xbe, 0xf1, 0xd8, 0x12, 0x4f, 0x49, 0x75, 0x3d, 0x74, 0xc2, 0x9f, 0xa7, 0x19, 0x2b,
-    0x3d, 0xa7, 0x03, 0xa4, 0x24, 0x81, 0xf5, 0x95, 0x04, 0xb7, 0x6a, 0x41, 0xec, 0x00, 0x24, 0x28,
-];
-
+/// The digest of the revised table, by the system's `sha256sum`.
 const REVISED: [u8; 32] = [
     0x96, 0xcc, 0x50, 0xb0, 0x39, 0x6b, 0x0e, 0x93, 0x39, 0x71, 0xad, 0x24, 0x64, 0xa5, 0x08, 0xf6,
     0x30, 0xc6, 0x46, 0x3f, 0x90, 0xc3, 0x22, 0xda, 0x83, 0x93, 0xbc, 0xc1, 0xa5, 0x46, 0xa9, 0xbe,

@@ -1,4 +1,5 @@
 //! Stamps and dates whose values were worked out by hand, or come from the system's `date`.
+use super::moments::{Moment, stamp_of};
 use super::{assert_same, assert_same_at};
 use jiff::civil::DateTime;
 use money_time::{Stamp, TimeFault, Window, Zone, day_of};
@@ -8,9 +9,6 @@ use std::test::Fail;
 
 /// London, with summer time from the last Sunday of March to that of October.
 const LONDON: &str = "GMT0BST,M3.5.0/1,M10.5.0";
-
-/// A moment, and its fare day, its minute of the day and its window.
-type Moment = (u32, i32, u16, Window);
 
 /// A window has its start and not its end. Worked out by hand: 2025-01-06 is a Monday and day
 /// 20094, and 00:00 there is 1736121600. Day 20276 is Monday 2025-07-07, in summer time.
@@ -101,19 +99,10 @@ const COUNTED: [Moment; 4] = [
 /// By this rule and these holidays each moment has this fare day, minute of the day and window.
 fn assert_stamps(rt: &impl Abort, rule: &str, holidays: &[i32], rows: &[Moment]) {
     let zone = Zone::read(rule).ok().expect(rt, "a zone");
-    for (moment, day, minute, window) in rows {
-        let stamp = Stamp {
-            moment: *moment,
-            day: *day,
-            minute: *minute,
-            window: *window,
-        };
-        assert_same_at(
-            rt,
-            zone.stamp(*moment, holidays),
-            Ok(stamp),
-            (rule, *moment),
-        );
+    for row in rows {
+        let moment = row.0;
+        let stamp = zone.stamp(moment, holidays);
+        assert_same_at(rt, stamp, Ok(stamp_of(row)), (rule, moment));
     }
 }
 

@@ -12,6 +12,19 @@ use std::process::Abort;
 /// A text of a table, and what comes in its place.
 pub(super) type Change = (&'static str, &'static str);
 
+/// The single fare of the zones 1 and 2, and the peak maximum, in the example and in the revised
+/// table.
+pub(super) const DEARER: [Change; 2] = [
+    ("350, off_peak = 290", "380, off_peak = 300"),
+    ("maximum_peak = 900", "maximum_peak = 1000"),
+];
+
+/// The digest of the example table, by the system's `sha256sum`.
+pub(super) const EXAMPLE_DIGEST: [u8; 32] = [
+    0x17, 0x08, 0xbe, 0xf1, 0xd8, 0x12, 0x4f, 0x49, 0x75, 0x3d, 0x74, 0xc2, 0x9f, 0xa7, 0x19, 0x2b,
+    0x3d, 0xa7, 0x03, 0xa4, 0x24, 0x81, 0xf5, 0x95, 0x04, 0xb7, 0x6a, 0x41, 0xec, 0x00, 0x24, 0x28,
+];
+
 /// A text with these changes, one after the other: each at the first place of its text. There is
 /// none where a text isn't there, or for want of memory.
 pub(super) fn changed(alloc: Global, text: &str, changes: &[(&str, &str)]) -> Option<String> {

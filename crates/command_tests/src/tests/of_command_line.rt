@@ -4,27 +4,12 @@ mod serve;
 mod usage;
 mod verify;
 
+use super::{assert_same, assert_same_at};
 use clap::error::ErrorKind;
 use command_line::{arguments_of, refuse_command};
 use std::alloc::Global;
-use std::fmt::Debug;
 use std::process::Abort;
 use std::test::Fail;
-
-/// These are equal.
-fn assert_same<T: PartialEq + Debug + Copy>(rt: &impl Abort, found: T, want: T) {
-    assert_eq!(rt; found, want);
-}
-
-/// These are equal, in this case.
-fn assert_same_at<T: PartialEq + Debug + Copy, C: Debug + Copy>(
-    rt: &impl Abort,
-    found: T,
-    want: T,
-    at: C,
-) {
-    assert_eq!(rt; found, want, "{at:?}");
-}
 
 /// Adds the program's name, and behind it the words of a command line.
 fn add_words<'a>(words: &mut Vec<&'a str>, line: &'a str) -> Option<()> {

@@ -7,8 +7,7 @@ mod system;
 use self::fakes::GivenFiles;
 use console::TrialFault;
 use std::alloc::Global;
-use std::fmt::Debug;
-use std::process::{Abort, ExitCode};
+use std::process::ExitCode;
 use std::test::Fail;
 
 /// A table of two stations.
@@ -59,14 +58,4 @@ pub(crate) fn answered(
 pub(crate) fn told(alloc: Global, fault: &TrialFault) -> Result<String, Fail> {
     let behind = fault.detail().unwrap_or("");
     Ok(format!(in alloc; "{fault}{behind}")?)
-}
-
-/// These are equal, in this case.
-pub(crate) fn assert_same_at<T: PartialEq + Debug + Copy>(
-    rt: &impl Abort,
-    found: T,
-    want: T,
-    at: &str,
-) {
-    assert_eq!(rt; found, want, "{at}");
 }

@@ -1,5 +1,6 @@
 //! The command `replay`, over files by hand, and with what is written worked out by hand.
-use crate::tests::of_console::{FILES, answered, assert_same_at};
+use super::assert_same_at;
+use super::of_console::{FILES, answered};
 use line_replay::replay_input;
 use reply_book::NameHashing;
 use std::test::Fail;

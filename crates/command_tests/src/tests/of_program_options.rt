@@ -1,13 +1,8 @@
 //! The words of a command line, and what a number of an option is.
+use super::assert_same_at;
 use clap::Command;
 use program_options::{number_in, refuse_bytes};
-use std::process::Abort;
 use std::test::Fail;
-
-/// These are equal, of this text.
-fn assert_same(rt: &impl Abort, found: Option<u32>, want: Option<u32>, text: &str) {
-    assert_eq!(rt; found, want, "{text}");
-}
 
 #[test]
 fn a_number_has_decimal_digits_alone_and_is_within_its_limits(rt: HostRuntime) {
@@ -24,7 +19,7 @@ fn a_number_has_decimal_digits_alone_and_is_within_its_limits(rt: HostRuntime) {
         ("0x1", None),
     ];
     for (text, number) in rows {
-        assert_same(&rt, number_in(text, 1, 64), number, text);
+        assert_same_at(&rt, number_in(text, 1, 64), number, text);
     }
 }
 

@@ -2,9 +2,8 @@
 ghost use Rattle.tap_office.specs.Name.{IsNameOf};
 ghost use Rattle.tap_office.specs.Opening.{opened_of};
 
-use super::of_gate_law::{
-    GATE, ROWS, Row, assert_same, assert_same_at, client_on, new_client, new_schedule, opened_again,
-};
+use super::of_gate_law::{new_schedule, opened_again};
+use super::{GATE, ROWS, Row, assert_same, assert_same_at, new_client, new_disk, open};
 use fare_table::{EXAMPLE_TABLE, Fares};
 use gate_client::{AskFault, Client, HearFault};
 use gate_law::{SettleFault, ask_in_steps, crash_in_steps};
@@ -50,12 +49,11 @@ fn plan_of(row: &Row, choice: Choice) -> Plan {
 }
 
 /// A disk with a new journal for ten touches of ten cards.
-fn new_disk(rt: &impl Abort, alloc: Global) -> MemoryDisk {
+fn new_journal(rt: &impl Abort, alloc: Global) -> MemoryDisk {
     let table = Fares::read(alloc, EXAMPLE_TABLE)
         .ok()
         .expect(rt, "no table");
-    let disk = MemoryDisk::new(alloc).expect(rt, "no memory for a disk");
-    match Journal::create(disk, 10, 10, &table.digest()) {
+    match Journal::create(new_disk(rt, alloc), 10, 10, &table.digest()) {
         Ok(journal) => journal.close(),
         Err(fault) => panic!(rt; "not made: {:?}", fault.cause),
     }
@@ -79,8 +77,8 @@ fn opened(rt: &impl Abort, alloc: Global, disk: MemoryDisk) -> Opening<MemoryDis
 /// A gate and a station whose disks don't fail.
 fn new_both(rt: &impl Abort, alloc: Global) -> Both {
     Both {
-        client: new_client(rt, alloc),
-        opening: opened(rt, alloc, new_disk(rt, alloc)),
+        client: new_client(rt, alloc, 3),
+        opening: opened(rt, alloc, new_journal(rt, alloc)),
     }
 }
 
@@ -95,11 +93,11 @@ fn fail_behind_opening(disk: &mut MemoryDisk, before: u64, call: u64) {
 
 /// A client whose disk fails at this call of its first touch.
 fn failing_client(rt: &impl Abort, alloc: Global, call: u64) -> Client<MemoryDisk> {
-    let made = new_client(rt, alloc).close();
+    let made = new_client(rt, alloc, 3).close();
     let before = made.calls();
-    let mut disk = client_on(rt, alloc, made).close();
+    let mut disk = open(rt, alloc, made).close();
     fail_behind_opening(&mut disk, before, call);
-    client_on(rt, alloc, disk)
+    open(rt, alloc, disk)
 }
 
 /// The disk of a keeper that was made and closed.
@@ -116,7 +114,7 @@ fn closed_disk<N: Named, R: Wait>(
 
 /// The opening of a new journal whose disk fails at this call of its first touch.
 fn failing_opening<R: Abort + Wait>(rt: &R, alloc: Global, call: u64) -> Opening<MemoryDisk> {
-    let made = new_disk(rt, alloc);
+    let made = new_journal(rt, alloc);
     let before = made.calls();
     let opening = opened(rt, alloc, made);
     let mut disk = closed_disk::<Brand, R>(rt, alloc, opening).expect(rt, "not closed");
@@ -207,7 +205,7 @@ fn another_touch_under_a_used_number_is_heard_as_a_conflict(rt: HostRuntime) {
     drop(client);
     // a second file for the gate, which counts from 1 again
     let both = Both {
-        client: new_client(&rt, rt.alloc()),
+        client: new_client(&rt, rt.alloc(), 3),
         opening,
     };
     let other = plan_of(&ROWS[1], Choice::New);

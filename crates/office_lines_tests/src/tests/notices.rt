@@ -298,6 +298,14 @@ const BEFORE_THURSDAY: u32 = 1_767_846_599;
 /// Noon on 2 January 2099.
 const FAR: u32 = 4_071_038_400;
 
+/// What is watched for one line, by the zone of London.
+fn zoned() -> Watched<'static> {
+    Watched {
+        zone: Zone::read("GMT0BST,M3.5.0/1,M10.5.0").ok(),
+        ..watched(1)
+    }
+}
+
 /// An accepted touch of a gate, behind which so many gates were told.
 fn assert_told_at_touch<R: Wait + Abort, L: Watch + Sync>(
     rt: &R,
@@ -314,11 +322,7 @@ fn assert_told_at_touch<R: Wait + Abort, L: Watch + Sync>(
 fn a_gate_that_is_ahead_of_all_others_is_told_once(rt: HostRuntime) -> Result<(), Fail> {
     let teller = new_teller();
     let ends = new_ends();
-    let zoned = Watched {
-        zone: Zone::read("GMT0BST,M3.5.0/1,M10.5.0").ok(),
-        ..watched(1)
-    };
-    let watch = Notices::new(rt.alloc(), &teller, &ends, zoned)?;
+    let watch = Notices::new(rt.alloc(), &teller, &ends, zoned())?;
     let without_zone = Notices::new(rt.alloc(), &teller, &ends, watched(1))?;
     for touch in [
         (9, FAR, 0),
@@ -339,11 +343,7 @@ fn a_gate_that_is_ahead_of_all_others_is_told_once(rt: HostRuntime) -> Result<()
 fn a_gate_is_ahead_from_three_fare_days_on(rt: HostRuntime) -> Result<(), Fail> {
     let teller = new_teller();
     let ends = new_ends();
-    let zoned = Watched {
-        zone: Zone::read("GMT0BST,M3.5.0/1,M10.5.0").ok(),
-        ..watched(1)
-    };
-    let watch = Notices::new(rt.alloc(), &teller, &ends, zoned)?;
+    let watch = Notices::new(rt.alloc(), &teller, &ends, zoned())?;
     for touch in [
         (7, NOON, 0),
         (8, BEFORE_THURSDAY, 0),

@@ -172,6 +172,25 @@ fn each_connection_of_each_line_is_served_and_counted_by_its_end(
     Ok(())
 }
 
+/// A connection with five requests gets an answer to each, from a new journal with room for so many
+/// touches, which is full then.
+fn assert_five_answered<R: AllocGlobal + Clock + Threads + Wait + Sync + Abort>(
+    rt: &R,
+    capacity: u32,
+    script: Script,
+) -> Result<(), Fail> {
+    let (tallies, entries) = served(rt, 1, capacity, &[script])?;
+    let tally = Tally {
+        connections: 1,
+        requests: 5,
+        answers: 5,
+        ends: [1, 0, 0, 0, 0, 0, 0],
+    };
+    assert_same(rt, tallies.as_slice(), [tally].as_slice());
+    assert_same(rt, entries, capacity);
+    Ok(())
+}
+
 #[test]
 fn a_full_history_goes_on_to_answer(rt: HostRuntime) -> Result<(), Fail> {
     let full = whole(
@@ -191,16 +210,7 @@ fn a_full_history_goes_on_to_answer(rt: HostRuntime) -> Result<(), Fail> {
             Frame::Holding,
         ],
     );
-    let (tallies, entries) = served(&rt, 1, 2, &[full])?;
-    let tally = Tally {
-        connections: 1,
-        requests: 5,
-        answers: 5,
-        ends: [1, 0, 0, 0, 0, 0, 0],
-    };
-    assert_same(&rt, tallies.as_slice(), [tally].as_slice());
-    assert_same(&rt, entries, 2);
-    Ok(())
+    assert_five_answered(&rt, 2, full)
 }
 
 #[test]
@@ -225,16 +235,7 @@ fn a_revision_is_answered_and_one_to_an_unknown_table_is_no_entry(
             Frame::Revised,
         ],
     );
-    let (tallies, entries) = served(&rt, 1, 3, &[revised])?;
-    let tally = Tally {
-        connections: 1,
-        requests: 5,
-        answers: 5,
-        ends: [1, 0, 0, 0, 0, 0, 0],
-    };
-    assert_same(&rt, tallies.as_slice(), [tally].as_slice());
-    assert_same(&rt, entries, 3);
-    Ok(())
+    assert_five_answered(&rt, 3, revised)
 }
 
 #[test]

@@ -241,3 +241,21 @@ fn assert_printed<R: Abort + AllocGlobal>(
     let schedule = example(rt.alloc()).ok_or("a schedule")?;
     assert_printed_by(rt, schedule, asked, bytes, want)
 }
+
+/// The statement of the whole history has these texts, as text, as comma-separated values and as a
+/// JSON object, by the example table.
+fn assert_forms<R: Abort + AllocGlobal>(
+    rt: &R,
+    bytes: &[u8],
+    texts: [&str; 3],
+) -> Result<(), Fail> {
+    let [text, csv, json] = texts;
+    for (format, want) in [
+        (StatementFormat::Text, text),
+        (StatementFormat::Csv, csv),
+        (StatementFormat::Json, json),
+    ] {
+        assert_printed(rt, whole(format), bytes, want)?;
+    }
+    Ok(())
+}

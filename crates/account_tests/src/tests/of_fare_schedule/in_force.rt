@@ -1,6 +1,7 @@
 //! Which table is in force, and the stamps that go by it.
 use super::*;
-use money_time::{Stamp, Window};
+use crate::tests::moments::{Moment, stamp_of};
+use money_time::Window;
 
 /// The pence of a journey between 2 and 1 in the early window.
 fn early_pence(rt: &impl Abort, fares: &Fares) -> u32 {
@@ -86,19 +87,11 @@ fn a_day_may_be_turned_to_before_it_is_revised(rt: HostRuntime) {
     assert_days(&rt, &schedule, &days);
 }
 
-/// A moment, and its fare day, its minute and its window.
-type Moment = (u32, i32, u16, Window);
-
 // The stamps of a schedule are these.
 fn assert_stamps(rt: &impl Abort, schedule: &Schedule, rows: &[Moment]) {
-    for (moment, day, minute, window) in rows {
-        let stamp = Stamp {
-            moment: *moment,
-            day: *day,
-            minute: *minute,
-            window: *window,
-        };
-        assert_same_at(rt, schedule.stamp(*moment), Ok(stamp), *moment);
+    for row in rows {
+        let moment = row.0;
+        assert_same_at(rt, schedule.stamp(moment), Ok(stamp_of(row)), moment);
     }
 }
 

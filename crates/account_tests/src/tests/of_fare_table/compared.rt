@@ -1,8 +1,8 @@
 //! What two tables are compared by, and stamps by the zone of one and the holidays of the other.
-use super::fares::Moment;
 use super::{Change, assert_same, assert_same_at, table, table_of};
+use crate::tests::moments::{Moment, stamp_of};
 use fare_table::{EXAMPLE_TABLE, Fares};
-use money_time::{Stamp, Window};
+use money_time::Window;
 use std::process::Abort;
 
 /// A text in place of the example's zone, as TOML has it, and the text that it stands for.
@@ -66,15 +66,8 @@ const BEHIND: [Change; 2] = [
 
 // By the first table's zone and the second's holidays this moment has this stamp.
 fn assert_stamp(rt: &impl Abort, one: &Fares, other: &Fares, expected: Moment) {
-    let (moment, day, minute, window) = expected;
-    let stamp = Stamp {
-        moment,
-        day,
-        minute,
-        window,
-    };
-    let by_one = one.stamp(moment).ok().expect(rt, "a stamp");
-    assert_same(rt, other.restamp(by_one), stamp);
+    let by_one = one.stamp(expected.0).ok().expect(rt, "a stamp");
+    assert_same(rt, other.restamp(by_one), stamp_of(&expected));
 }
 
 // 1751866200 is Monday 2025-07-07, 06:30 by the example's zone and 00:30 by the other, so of the

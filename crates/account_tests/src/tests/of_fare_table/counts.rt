@@ -1,7 +1,8 @@
 //! Lists with as many rows as they may have.
-use super::fares::{Moment, assert_stamps, assert_stations};
+use super::fares::{assert_stamps, assert_stations};
 use super::links::{Leg, Walk, assert_interchanges, assert_legs};
 use super::{assert_same, table_of};
+use crate::tests::moments::Moment;
 use fare_table::{Cap, Fares, Zones};
 use money_time::Window;
 use std::alloc::{AllocError, Global};

@@ -1,6 +1,7 @@
 //! A table without the lists that may be left out.
-use super::fares::{Moment, assert_stamps, leg_of};
+use super::fares::{assert_stamps, leg_of};
 use super::{Change, assert_same, table};
+use crate::tests::moments::Moment;
 use fare_table::{EXAMPLE_TABLE, Fare};
 use money_time::Window;
 

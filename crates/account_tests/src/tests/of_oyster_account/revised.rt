@@ -1,16 +1,11 @@
 //! A card by a schedule of two tables, of which the second counts from Tuesday 2025-01-07 on.
 
 use super::*;
+use crate::tests::tables::DEARER;
 use fare_table::EXAMPLE_TABLE;
 
 /// The fare day of that Tuesday, which begins at 04:30.
 const TUESDAY: i32 = 20095;
-
-/// The single fare of the zones 1 and 2, and the peak maximum.
-const DEARER: [Change; 2] = [
-    ("350, off_peak = 290", "380, off_peak = 300"),
-    ("maximum_peak = 900", "maximum_peak = 1000"),
-];
 
 /// A number of each rule that goes by a table.
 const OTHERWISE: [Change; 8] = [

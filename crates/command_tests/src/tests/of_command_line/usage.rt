@@ -1,5 +1,6 @@
 //! What is told of a command line that is refused.
-use crate::tests::of_command_line::{assert_same_at, words_of};
+use crate::tests::assert_same_at;
+use crate::tests::of_command_line::words_of;
 use command_line::arguments_of;
 use std::alloc::Global;
 use std::process::Abort;

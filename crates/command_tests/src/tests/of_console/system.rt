@@ -1,5 +1,6 @@
 //! The files of the system, and what is said of one that isn't had.
-use super::{assert_same_at, told};
+use super::told;
+use crate::tests::assert_same_at;
 use console::{Detail, LimitedFiles, Refusal, SystemFiles, WholeFiles, open_refusal};
 use std::io;
 use std::test::Fail;

@@ -1,6 +1,6 @@
 //! What one table says otherwise than another, with the lines worked out by hand.
-use super::assert_same_at;
 use super::notes::sheet_of;
+use crate::tests::assert_same_at;
 use std::alloc::Global;
 use std::fmt::Write;
 use std::test::Fail;

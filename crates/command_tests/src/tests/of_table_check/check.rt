@@ -1,6 +1,6 @@
 //! Tables that are checked, with what is written worked out by hand.
 
-use super::assert_same_at;
+use crate::tests::assert_same_at;
 use fare_table::{EXAMPLE_TABLE, TableFault};
 use std::alloc::Global;
 use std::process::Abort;

@@ -1,5 +1,6 @@
 //! The command `check`, over files by hand, and with what is written worked out by hand.
-use crate::tests::of_console::{FILES, answered, assert_same_at};
+use crate::tests::assert_same_at;
+use crate::tests::of_console::{FILES, answered};
 use command_line::Journey;
 use std::test::Fail;
 use table_check::{check_file, tell_changes, tell_fare};

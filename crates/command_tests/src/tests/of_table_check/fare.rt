@@ -1,6 +1,6 @@
 //! What a journey costs by a table, worked out by hand.
-use super::assert_same_at;
 use super::check::changed;
+use crate::tests::assert_same_at;
 use fare_table::{EXAMPLE_TABLE, Fare, Fares};
 use money_time::{Stamp, Window};
 use std::test::Fail;

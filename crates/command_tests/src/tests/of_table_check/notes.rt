@@ -1,6 +1,6 @@
 //! Texts that are looked over, with what is told worked out by hand.
 
-use super::assert_same_at;
+use crate::tests::assert_same_at;
 use std::alloc::Global;
 use std::fmt::Write;
 use std::test::Fail;

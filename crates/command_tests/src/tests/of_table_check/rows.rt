@@ -1,6 +1,6 @@
 //! Which rows of a text name what is asked for, worked out by hand.
-use super::assert_same_at;
 use super::notes::sheet_of;
+use crate::tests::assert_same_at;
 use fare_table::Key;
 use std::test::Fail;
 use table_check::Wanted;

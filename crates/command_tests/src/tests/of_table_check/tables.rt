@@ -1,5 +1,6 @@
 //! The tables that words name.
-use crate::tests::of_console::{FILES, assert_same_at, told};
+use crate::tests::assert_same_at;
+use crate::tests::of_console::{FILES, told};
 use console::TrialFault;
 use fare_schedule::Schedule;
 use std::alloc::Global;

@@ -3,6 +3,7 @@ ghost use Rattle.std.specs.Prelude.{⊤};
 
 use super::*;
 use gate_client::{Asked, Line, SettleFault, Station, Told, TryFault, asked_by, exchange, settle};
+use oyster_account::Act;
 use std::fmt::Display;
 use test_streams::{Pieces, Taker};
 

@@ -9,7 +9,7 @@ ghost use Rattle.gate_law.specs.Settled.{IsSettled};
 
 use super::*;
 use gate_law::{BookClerk, books_keep_stations, settle_at_once};
-use oyster_account::{CardState, CardView};
+use oyster_account::{Act, CardState, CardView};
 use reply_book::{Book, NameHashing};
 
 /// The clerk of a book of ten cards.
@@ -62,7 +62,7 @@ fn assert_entered(rt: &impl Abort, clerk: BookClerk, entered: u32) {
 
 #[test]
 fn a_book_settles_each_touch(rt: HostRuntime) {
-    let mut client = new_client(&rt, rt.alloc());
+    let mut client = new_client(&rt, rt.alloc(), 3);
     let mut clerk = new_clerk(&rt, rt.alloc());
     for row in &ROWS {
         let reply = asked_by_book(&rt, rt.alloc(), &mut client, &mut clerk, &row.touch, WHOLE);
@@ -79,7 +79,7 @@ fn a_book_settles_each_touch(rt: HostRuntime) {
 
 #[test]
 fn a_book_settles_each_touch_at_once(rt: HostRuntime) {
-    let mut client = new_client(&rt, rt.alloc());
+    let mut client = new_client(&rt, rt.alloc(), 3);
     let mut clerk = new_clerk(&rt, rt.alloc());
     for row in &ROWS {
         let reply = asked_at_once(&rt, &mut client, &mut clerk, &row.touch);
@@ -96,7 +96,7 @@ fn a_book_repeats_its_first_reply(rt: HostRuntime) {
         ..WHOLE
     };
     let row = &ROWS[0];
-    let mut client = new_client(&rt, rt.alloc());
+    let mut client = new_client(&rt, rt.alloc(), 3);
     let mut clerk = new_clerk(&rt, rt.alloc());
     let none = asked_by_book(&rt, rt.alloc(), &mut client, &mut clerk, &row.touch, lost);
     assert_same(&rt, none, Err(TouchFault::Unsettled(NONE)));
@@ -114,7 +114,7 @@ fn assert_refused<R: Abort + Wait>(
     act: Act,
     code: u8,
 ) {
-    let mut client = new_client(rt, alloc);
+    let mut client = new_client(rt, alloc, 3);
     let touch = Touch {
         act,
         ..ROWS[0].touch
@@ -134,7 +134,7 @@ fn a_book_refuses_another_touch_and_an_unknown_table(rt: HostRuntime) {
     };
     let mut clerk = new_clerk(&rt, rt.alloc());
     assert_refused(&rt, rt.alloc(), &mut clerk, revision, 6);
-    let mut client = new_client(&rt, rt.alloc());
+    let mut client = new_client(&rt, rt.alloc(), 3);
     let first = &ROWS[0].touch;
     let reply = asked_by_book(&rt, rt.alloc(), &mut client, &mut clerk, first, WHOLE);
     assert_same(&rt, reply, Ok(ROWS[0].reply));

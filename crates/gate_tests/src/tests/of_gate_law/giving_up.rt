@@ -5,7 +5,7 @@ use tap_disk::Choice;
 
 /// A client that was asked for the first row's touch and gave it up, behind a crash of this kind.
 fn given_up(rt: &impl Abort, alloc: Global, choice: Choice) -> Client<MemoryDisk> {
-    let mut client = new_client(rt, alloc);
+    let mut client = new_client(rt, alloc, 3);
     let Touch { card, act, .. } = ROWS[0].touch;
     assert_same(rt, ask_in_steps(&mut client, card, act), Ok(ROWS[0].touch));
     let waits = client.waiting().is_some();

@@ -3,7 +3,7 @@ use super::*;
 
 #[test]
 fn each_touch_gets_its_reply(rt: HostRuntime) {
-    let mut client = new_client(&rt, rt.alloc());
+    let mut client = new_client(&rt, rt.alloc(), 3);
     let mut station = Script::new();
     for row in &ROWS {
         let reply = asked(&rt, rt.alloc(), &mut client, &mut station, row, WHOLE);
@@ -21,7 +21,7 @@ fn each_touch_gets_its_reply(rt: HostRuntime) {
 /// gets its reply. By then the station had the touch or not.
 fn assert_lost<R: Abort + Wait>(rt: &R, alloc: Global, carried: Carried, had: usize) {
     let row = &ROWS[0];
-    let mut client = new_client(rt, alloc);
+    let mut client = new_client(rt, alloc, 3);
     let mut station = Script::new();
     let first = asked(rt, alloc, &mut client, &mut station, row, carried);
     assert_same_at(rt, first, Err(TouchFault::Unsettled(NONE)), &carried);
@@ -64,7 +64,7 @@ fn a_gate_that_is_opened_again_settles_its_last_touch(rt: HostRuntime) {
         to_gate: 21,
         ..WHOLE
     };
-    let mut client = new_client(&rt, rt.alloc());
+    let mut client = new_client(&rt, rt.alloc(), 3);
     let mut station = Script::new();
     let reply = asked(&rt, rt.alloc(), &mut client, &mut station, &ROWS[0], WHOLE);
     assert_same(&rt, reply, Ok(ROWS[0].reply));
@@ -94,7 +94,7 @@ fn a_touch_that_is_refused_waits_on(rt: HostRuntime) {
         (FaultCode::Full, 5),
         (FaultCode::UnknownTable, 6),
     ] {
-        let mut client = new_client(&rt, rt.alloc());
+        let mut client = new_client(&rt, rt.alloc(), 3);
         let mut station = Script {
             fault: Some(fault),
             ..Script::new()

@@ -1,19 +1,14 @@
 //! What no clause says of balances: worked journals with their rows, and what stands where a write
 //! or an allocation fails. The amounts are those of FARES.md, "Worked examples".
 
-ghost use Rattle.std.specs.Prelude.{◌≡◌, [], IfSome};
-ghost use Rattle.fare_schedule.specs.Schedule.{revisions_of};
-
 mod failing;
 
-use super::{journal_fault, table_fault};
-use fare_schedule::Schedule;
-use fare_table::{EXAMPLE_TABLE, Fares};
+use super::{EXAMPLE_DIGEST, example, journal_fault, table_fault};
+use crate::tests::{assert_same, assert_same_at};
 use journal_audit::{AuditFault, Totals, write_balances};
 use oyster_account::{Act, Touch};
 use reply_book::NameHashing;
 use std::alloc::Global;
-use std::fmt::Debug;
 use std::process::Abort;
 use std::test::Fail;
 use tap_journal::JournalFault;
@@ -27,11 +22,6 @@ const HEADER: [u8; 64] = *b"\xa5OYSTERJ2\x00\x00\x00\x14\x00\x00\x00\x0a\
     \x17\x08\xbe\xf1\xd8\x12\x4f\x49\x75\x3d\x74\xc2\x9f\xa7\x19\x2b\
     \x3d\xa7\x03\xa4\x24\x81\xf5\x95\x04\xb7\x6a\x41\xec\x00\x24\x28\
     \x00\x00\x00\x00\x00\x00\x00\x00\x00\x00\x00\x00\x00\x00\x00";
-
-/// The digest of the example table's text.
-const EXAMPLE_DIGEST: [u8; 32] =
-    *b"\x17\x08\xbe\xf1\xd8\x12\x4f\x49\x75\x3d\x74\xc2\x9f\xa7\x19\x2b\
-    \x3d\xa7\x03\xa4\x24\x81\xf5\x95\x04\xb7\x6a\x41\xec\x00\x24\x28";
 
 /// Monday 2025-01-06, 08:00:00.
 const EIGHT: u32 = 1_736_150_400;
@@ -143,14 +133,6 @@ const REFUSED: [Deed; 12] = [
     ),
 ];
 
-/// A schedule of the example table alone. There is none for want of memory.
-fn example(alloc: Global) -> Option<Schedule>
-    ensures { IfSome result (λ schedule. revisions_of schedule ≡ []) }
-{
-    let first = Fares::read(alloc, EXAMPLE_TABLE).ok()?;
-    Schedule::new(alloc, first).ok()
-}
-
 /// The slot of a deed, with this number of gate 7. In the first format it is the first 32 bytes.
 fn slot_of(number: u32, deed: &Deed) -> [u8; 64] {
     let (card, act) = deed;
@@ -212,21 +194,6 @@ fn totals(cards: u32, paid_in: u64, charged: i64, balance: i64) -> Totals {
         charged,
         balance,
     }
-}
-
-/// These are equal.
-fn assert_same<T: PartialEq + Debug + Copy>(rt: &impl Abort, found: T, want: T) {
-    assert_eq!(rt; found, want);
-}
-
-/// These are equal, in the case that is named.
-fn assert_same_at<T: PartialEq + Debug + Copy, C: Debug + Copy>(
-    rt: &impl Abort,
-    found: T,
-    want: T,
-    at: C,
-) {
-    assert_eq!(rt; found, want, "{at:?}");
 }
 
 /// The balances at a place of some bytes have these rows, and end with these totals.

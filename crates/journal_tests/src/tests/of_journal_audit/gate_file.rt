@@ -1,12 +1,13 @@
 //! What no clause says of audits of gates' files: worked files with their lines and seals, and what
 //! is told of each other one. The digests are those of Python's hashlib.
 
-use command_line::{Seal, Sealed};
+use super::asking;
+use crate::tests::{assert_same_at, with};
+use command_line::Sealed;
 use journal_audit::{
     Asked, AuditFault, Finding, GateFault, HeaderFault, SealFault, audit_gate_file,
 };
 use std::alloc::Global;
-use std::fmt::Debug;
 use std::process::Abort;
 use std::test::Fail;
 
@@ -31,29 +32,6 @@ const LINES: &str = "version 2\ncapacity 5\ngate 7\ntouches 2\nroom 3\ntrailing 
 /// The digest of its header and both slots.
 const DIGEST: &str = "51d031b9f192a850022bcfb29f7bb425368c9be4be427696f5c3f410ae1ca079";
 
-/// What is asked of a file, with no seal.
-fn asking(capacity: Option<u32>, cards: Option<u32>) -> Asked {
-    Asked {
-        capacity,
-        cards,
-        seal: Seal {
-            kept: None,
-            made: false,
-        },
-    }
-}
-
-/// The file with these bytes changed.
-fn with(changes: &[(usize, u8)]) -> [u8; 193] {
-    let mut bytes = FILE;
-    for (at, byte) in changes {
-        if let Some(place) = bytes.get_mut(*at) {
-            *place = *byte;
-        }
-    }
-    bytes
-}
-
 /// What is written of some bytes as the file of a gate, and how the audit ends.
 fn audited(
     alloc: Global,
@@ -65,16 +43,6 @@ fn audited(
     let ended = audit_gate_file(alloc, gate, asked, bytes, &mut written);
     let text = String::from_utf8(written).ok().ok_or("a text")?;
     Ok((text, ended))
-}
-
-/// These are equal, in the case that is named.
-fn assert_same_at<T: PartialEq + Debug + Copy, C: Debug + Copy>(
-    rt: &impl Abort,
-    found: T,
-    want: T,
-    at: C,
-) {
-    assert_eq!(rt; found, want, "{at:?}");
 }
 
 /// An audit of some bytes as the file of gate 7 ends so, and its lines are these.
@@ -98,7 +66,7 @@ fn a_gates_file_is_told_in_lines(rt: HostRuntime) -> Result<(), Fail> {
     for asked in asked {
         assert_told(&rt, asked, &FILE, Ok(Finding::Sound), sound.as_str())?;
     }
-    let (text, ended) = audited(rt.alloc(), 7, asking(None, None), &with(&[(64, 0)]))?;
+    let (text, ended) = audited(rt.alloc(), 7, asking(None, None), &with(FILE, &[(64, 0)]))?;
     assert_same_at(&rt, ended, Ok(Finding::Sound), 64);
     let last = "touches 0\nroom 5\ntrailing 129\nbehind 1\nsound\n";
     assert_same_at(&rt, text.ends_with(last), true, 64);
@@ -122,7 +90,7 @@ fn what_is_no_file_of_the_gate_is_told_by_its_cause(rt: HostRuntime) -> Result<(
     ];
     for (changes, want) in rows {
         let fault = Err(AuditFault::Gate(want));
-        assert_told(&rt, asking(Some(9), None), &with(changes), fault, "")?;
+        assert_told(&rt, asking(Some(9), None), &with(FILE, changes), fault, "")?;
     }
     let (text, ended) = audited(rt.alloc(), 8, asking(None, None), &FILE)?;
     assert_same_at(&rt, ended, Err(AuditFault::Gate(GateFault::AnotherFile)), 8);
@@ -159,11 +127,11 @@ fn a_gates_file_is_sealed_and_held_against_its_seal(rt: HostRuntime) -> Result<(
     asked.seal.kept = Some(Sealed { touches: 2, digest });
     assert_told(&rt, asked, &FILE, Ok(Finding::Sound), lines.as_str())?;
     let changed = Err(AuditFault::Seal(SealFault::Changed));
-    assert_told(&rt, asked, &with(&[(191, 1)]), changed, "")?;
+    assert_told(&rt, asked, &with(FILE, &[(191, 1)]), changed, "")?;
     let shorter = SealFault::Shorter {
         touches: 1,
         sealed: 2,
     };
     let fault = Err(AuditFault::Seal(shorter));
-    assert_told(&rt, asked, &with(&[(128, 0)]), fault, "")
+    assert_told(&rt, asked, &with(FILE, &[(128, 0)]), fault, "")
 }

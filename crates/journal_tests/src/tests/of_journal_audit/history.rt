@@ -2,21 +2,16 @@
 //! where a write or an allocation fails. The rows are those of FARES.md, "Worked examples",
 //! and "Verdicts".
 
-ghost use Rattle.std.specs.Prelude.{◌≡◌, [], IfSome};
-ghost use Rattle.fare_schedule.specs.Schedule.{revisions_of};
-
 mod memory;
 mod verdicts;
 mod writing;
 
-use super::{journal_fault, table_fault};
+use super::{EXAMPLE_DIGEST, example, journal_fault, table_fault};
+use crate::tests::{assert_same, assert_same_at};
 use command_line::HistoryFormat;
-use fare_schedule::Schedule;
-use fare_table::{EXAMPLE_TABLE, Fares};
 use journal_audit::{AuditFault, Wanted, write_history};
 use reply_book::NameHashing;
 use std::alloc::{AllocError, Global};
-use std::fmt::Debug;
 use std::process::Abort;
 use std::test::Fail;
 use tap_journal::JournalFault;
@@ -25,11 +20,6 @@ use tap_journal::JournalFault;
 const HEADER: &str = "a54f59535445524a32000000640000000a\
     1708bef1d8124f49753d74c29fa7192b3da703a42481f59504b76a41ec002428\
     000000000000000000000000000000";
-
-/// The digest of the example table's text.
-const EXAMPLE_DIGEST: [u8; 32] =
-    *b"\x17\x08\xbe\xf1\xd8\x12\x4f\x49\x75\x3d\x74\xc2\x9f\xa7\x19\x2b\
-    \x3d\xa7\x03\xa4\x24\x81\xf5\x95\x04\xb7\x6a\x41\xec\x00\x24\x28";
 
 /// The frames of an issue at 07:50 on Monday 2025-01-06, a top-up of 2000, in at 2 at 08:00, and
 /// out at 1 at 08:25.
@@ -56,14 +46,6 @@ const ALL: Wanted = Wanted {
     card: None,
     day: None,
 };
-
-/// A schedule of the example table alone. There is none for want of memory.
-pub fn example(alloc: Global) -> Option<Schedule>
-    ensures { IfSome result (λ schedule. revisions_of schedule ≡ []) }
-{
-    let first = Fares::read(alloc, EXAMPLE_TABLE).ok()?;
-    Schedule::new(alloc, first).ok()
-}
 
 /// The bytes of a journal in the second format, or the first where `old`, that holds these frames.
 /// There are none for want of memory.
@@ -116,21 +98,6 @@ fn told(
     );
     let text = String::from_utf8(written).ok().ok_or("a text")?;
     Ok((text, ended))
-}
-
-/// These are equal.
-fn assert_same<T: PartialEq + Debug + Copy>(rt: &impl Abort, found: T, want: T) {
-    assert_eq!(rt; found, want);
-}
-
-/// These are equal, in the case that is named.
-fn assert_same_at<T: PartialEq + Debug + Copy, C: Debug + Copy>(
-    rt: &impl Abort,
-    found: T,
-    want: T,
-    at: C,
-) {
-    assert_eq!(rt; found, want, "{at:?}");
 }
 
 /// The touches that are wanted of a journal's bytes are told by this text.

@@ -1,17 +1,12 @@
 //! Touches that are entered in a book by tables. The replies are those of FARES.md, "Worked
 //! examples".
 
-use super::history::example;
+use super::{EXAMPLE_DIGEST, example};
+use crate::tests::assert_same;
 use journal_audit::{digest_of_first, enter_touches};
 use oyster_account::{Act, CardState, CardView, Reply, Touch};
 use reply_book::{Entry, NameHashing};
-use std::fmt::Debug;
-use std::process::Abort;
 use std::test::Fail;
-
-/// The digest of the example table's text by the system's `sha256sum`.
-const DIGEST: [u8; 32] = *b"\x17\x08\xbe\xf1\xd8\x12\x4f\x49\x75\x3d\x74\xc2\x9f\xa7\x19\x2b\
-    \x3d\xa7\x03\xa4\x24\x81\xf5\x95\x04\xb7\x6a\x41\xec\x00\x24\x28";
 
 /// Card 1 is issued, topped up by 2000 pence, touched in at 2 at 08:00 and out at 1 at 08:25.
 const fn entries() -> [Entry; 4] {
@@ -73,15 +68,10 @@ const fn entry(number: u32, act: Act, reply: Reply) -> Entry {
     }
 }
 
-/// These are equal.
-fn assert_same<T: PartialEq + Debug + Copy>(rt: &impl Abort, found: T, want: T) {
-    assert_eq!(rt; found, want);
-}
-
 #[test]
 fn the_digest_of_the_first_table_is_that_of_its_text(rt: HostRuntime) -> Result<(), Fail> {
     let schedule = example(rt.alloc()).ok_or("tables")?;
-    assert_same(&rt, digest_of_first(&schedule), DIGEST);
+    assert_same(&rt, digest_of_first(&schedule), EXAMPLE_DIGEST);
     Ok(())
 }
 

@@ -133,14 +133,7 @@ fn mixed() -> [Deed; 17] {
 #[test]
 fn the_refused_touches_of_the_card_are_listed(rt: HostRuntime) -> Result<(), Fail> {
     let bytes = journal(rt.alloc(), &mixed()).ok_or("a journal")?;
-    for (format, want) in [
-        (StatementFormat::Text, TEXT),
-        (StatementFormat::Csv, CSV),
-        (StatementFormat::Json, JSON),
-    ] {
-        assert_printed(&rt, whole(format), &bytes, want)?;
-    }
-    Ok(())
+    assert_forms(&rt, &bytes, [TEXT, CSV, JSON])
 }
 
 #[test]

@@ -121,14 +121,7 @@ fn incomplete() -> [Deed; 7] {
 #[test]
 fn each_reason_is_printed_with_its_maximum(rt: HostRuntime) -> Result<(), Fail> {
     let bytes = journal(rt.alloc(), &incomplete()).ok_or("a journal")?;
-    for (format, want) in [
-        (StatementFormat::Text, TEXT),
-        (StatementFormat::Csv, CSV),
-        (StatementFormat::Json, JSON),
-    ] {
-        assert_printed(&rt, whole(format), &bytes, want)?;
-    }
-    Ok(())
+    assert_forms(&rt, &bytes, [TEXT, CSV, JSON])
 }
 
 #[test]
@@ -139,12 +132,5 @@ fn a_debt_has_its_sign(rt: HostRuntime) -> Result<(), Fail> {
         enter(2, at(0, 8, 0)),
     ];
     let bytes = journal(rt.alloc(), &deeds).ok_or("a journal")?;
-    for (format, want) in [
-        (StatementFormat::Text, DEBT_TEXT),
-        (StatementFormat::Csv, DEBT_CSV),
-        (StatementFormat::Json, DEBT_JSON),
-    ] {
-        assert_printed(&rt, whole(format), &bytes, want)?;
-    }
-    Ok(())
+    assert_forms(&rt, &bytes, [DEBT_TEXT, DEBT_CSV, DEBT_JSON])
 }

@@ -131,13 +131,6 @@ pub(super) const FORMS: [(StatementFormat, &str); 3] = [
     (StatementFormat::Json, JSON),
 ];
 
-/// The Monday in summer in each format.
-const SUMMER_FORMS: [(StatementFormat, &str); 3] = [
-    (StatementFormat::Text, SUMMER_TEXT),
-    (StatementFormat::Csv, SUMMER_CSV),
-    (StatementFormat::Json, SUMMER_JSON),
-];
-
 /// An issue and a top-up of 2000 at 06:30, three journeys from 2 to 1, and a touch in at 10:00.
 pub(super) fn monday() -> [Deed; 9] {
     [
@@ -198,10 +191,7 @@ fn a_statement_is_printed_as_a_json_object(rt: HostRuntime) -> Result<(), Fail> 
 #[test]
 fn times_are_by_the_clock_and_moments_in_utc(rt: HostRuntime) -> Result<(), Fail> {
     let bytes = journal(rt.alloc(), &summer()).ok_or("a journal")?;
-    for (format, want) in SUMMER_FORMS {
-        assert_printed(&rt, whole(format), &bytes, want)?;
-    }
-    Ok(())
+    assert_forms(&rt, &bytes, [SUMMER_TEXT, SUMMER_CSV, SUMMER_JSON])
 }
 
 #[test]

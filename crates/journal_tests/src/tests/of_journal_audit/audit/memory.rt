@@ -3,9 +3,9 @@
 ghost use Rattle.std.specs.Prelude.{◌≡◌, [], IfSome};
 ghost use Rattle.fare_schedule.specs.Schedule.{revisions_of};
 
-use super::tables::{example, of_example};
+use super::tables::of_example;
 use super::*;
-use crate::tests::of_journal_audit::is_of_memory;
+use crate::tests::of_journal_audit::{example, is_of_memory};
 use std::io::Cursor;
 
 /// How often an audit that was refused memory is begun again.

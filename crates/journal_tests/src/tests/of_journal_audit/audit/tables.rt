@@ -1,17 +1,8 @@
 //! Journals that are held against fare tables.
 
-ghost use Rattle.std.specs.Prelude.{◌≡◌, [], IfSome};
-ghost use Rattle.fare_schedule.specs.Schedule.{revisions_of};
-
 use super::*;
-use crate::tests::of_journal_audit::{fault_with, table_fault};
-use fare_table::{EXAMPLE_TABLE, Fares};
+use crate::tests::of_journal_audit::{EXAMPLE_DIGEST, example, fault_with, table_fault};
 use tap_journal::Discrepancy;
-
-/// The digest of the example table's text.
-const EXAMPLE_DIGEST: [u8; 32] =
-    *b"\x17\x08\xbe\xf1\xd8\x12\x4f\x49\x75\x3d\x74\xc2\x9f\xa7\x19\x2b\
-    \x3d\xa7\x03\xa4\x24\x81\xf5\x95\x04\xb7\x6a\x41\xec\x00\x24\x28";
 
 /// The digest in the journal of two touches.
 const FILE_DIGEST: [u8; 32] = *b"0123456789abcdef0123456789abcdef";
@@ -19,14 +10,6 @@ const FILE_DIGEST: [u8; 32] = *b"0123456789abcdef0123456789abcdef";
 /// The slot of a revision of gate 7 with number 6, from fare day 20095 on, but for the table's
 /// digest.
 const REVISION: [u8; 12] = *b"\xa5\x06\x00\x07\x00\x00\x00\x06\x00\x00\x00\x00";
-
-/// A schedule of the example table alone. There is none for want of memory.
-pub(super) fn example(alloc: Global) -> Option<Schedule>
-    ensures { IfSome result (λ schedule. revisions_of schedule ≡ []) }
-{
-    let first = Fares::read(alloc, EXAMPLE_TABLE).ok()?;
-    Schedule::new(alloc, first).ok()
-}
 
 /// The journal of two touches, of the example table.
 pub(super) fn of_example() -> [u8; 193] {
