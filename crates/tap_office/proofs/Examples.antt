@@ -1,4 +1,4 @@
--- Worked examples, computed by the definitions: the room for a touch; and the limit that definitions and clauses take
+-- Worked examples, computed by the definitions: the room for a touch; and the numbers that definitions and clauses take
 -- from the code.
 use Rattle.std.proofs.Common.{◌≡◌, ℕ, pos, true, List, [], ◌∷◌, None, Some, refl, arith}
 use Rattle.std.proofs.lemmas.List.Elements.{All-nil}
@@ -15,10 +15,18 @@ use Rattle.reply_book.proofs.CallerLemmas.{legal-none}
 use Rattle.tap_office.specs.Name.{Opened, nothing_opened}
 use Rattle.tap_office.specs.Room.{room_after, unless_repeat, room_in, IsRoomFor}
 use Rattle.tap_office.specs.declared.opening.TheConstants.{SEAT_LIMIT}
+use Rattle.tap_office.specs.declared.sync_times.TheConstants.{LONG_SYNC, ROW}
 
 -- an office has at most 64 seats
 most_seats : SEAT_LIMIT ≡ 64
 most_seats = refl
+
+-- a sync is long from 50 microseconds on, and four long commits in a row make commits take turns
+long_sync : LONG_SYNC ≡ 50_000
+long_sync = refl
+
+row_of_four : ROW ≡ 4
+row_of_four = refl
 
 -- ---- the room for a touch
 
