@@ -17,6 +17,13 @@ IN_PYTHON = r'(?P<code>\d+): "(?P<name>\w+)"'
 # The options whose limit is the command line's alone, with what the help says before it.
 OPTIONS = [("connections", "before it ends,"), ("idle", "for this many seconds,"), ("report", "at this interval in.seconds,")]
 ACTS = ("in", "out", "top-up", "issue", "revision")
+HAPROXY = "packaging/haproxy/bovtrila.cfg"
+OPERATING = "docs/operate/OPERATING.md"
+# The limits of HAProxy that have a row of their own, and those of a certificate in a sentence, with what is counted.
+LIMITS = "SLOTS|CONNECTIONS|NEW|BYTES|HANDSHAKE|SILENT|OLD"
+OF_A_CERTIFICATE = (("CONNECTIONS", "connections"), ("NEW", "new connections"), ("BYTES", "bytes"))
+# The timers of a server, with what a sentence says before and behind the time.
+TIMERS = (("copies", "^Each night at ", "the timer runs `bovtrila-keep-copies`"), ("next-journal", "Each day at ", "by this machine's clock"))
 
 
 @dataclasses.dataclass
@@ -136,6 +143,25 @@ FACTS: dict[str, tuple[Place | Read, list[Place]]] = {
         Place("crates/door_file/src/door.rt", r"const MOST_BYTES: usize = (?P<code>[\d_]+);"), [
             Place("docs/reference/DOOR.md", r"document of at most (?P<code>[\d,]+) bytes"),
         ]),
+    "the limits of HAProxy": (
+        Place(HAPROXY, rf"^ +setenv (?P<name>{LIMITS}) (?P<code>\d+)s?$"), [
+            Place(OPERATING, r"^\| `(?P<name>[A-Z]+)` \| (?P<code>\d+)s? \|"),
+        ]),
+    **{f"the limits of HAProxy {first} and {second}": (
+        Place(HAPROXY, rf"^ +setenv (?:{first}|{second}) (?P<code>\d+)s?$"), [
+            Place(OPERATING, r"(?P<code>\d+)", rf"^\| `{first}`, `{second}` \| ", r" \|"),
+        ]) for first, second in (("WAITING", "WAIT"), ("ADDRESS_CONNECTIONS", "ADDRESS_NEW"))},
+    **{f"the most {counted} of a certificate": (
+        Place(HAPROXY, rf"^ +setenv {name} (?P<code>\d+)$"), [
+            Place("docs/reference/PROTOCOL.md", rf"(?P<code>[\d,]+) {counted} (?:at once|in 10 seconds|of requests a second)",
+                  r"^HAProxy allows each certificate", r"unless the operator"),
+            Place(OPERATING, rf"at most (?P<code>[\d,]+) {counted} (?:a second )?for each certificate", some=True),
+        ]) for name, counted in OF_A_CERTIFICATE},
+    **{f"the time of bovtrila-{name}.timer": (
+        Place(f"packaging/bovtrila-{name}.timer", r"^OnCalendar=\*-\*-\* (?P<code>[\d:]+)$"), [
+            Place(f"packaging/bovtrila-{name}@.timer", r"^OnCalendar=\*-\*-\* (?P<code>[\d:]+)$"),
+            Place(OPERATING, rf"{before}(?P<code>[\d:]+) {behind}"),
+        ]) for name, before, behind in TIMERS},
     "the program's version": (
         Place("VERSION", r"\A(?P<name>\d+\.\d+\.\d+)\n\Z"), [
             Place("crates/program_options/src/version.rt", r'^pub const VERSION: &str = "(?P<name>[\d.]+)$'),

@@ -1,4 +1,4 @@
-"""Reads in packaging/ what docs/operate/OPERATING.md has of it: the settings of units, and the addresses."""
+"""Reads in packaging/ what pages have of it: the settings of units, the addresses, and when the timers of a network start."""
 import pathlib
 import re
 
@@ -6,6 +6,7 @@ from fact_code import Wrong, text_of
 from fact_regions import Region
 
 PAGE = "docs/operate/OPERATING.md"
+NETWORK_PAGE = "docs/operate/NETWORK.md"
 EXPORTER = "tools/bovtrila/commands/exporter.py"
 # Where each address is set, and how it is read there.
 ADDRESSES = {"packaging/serve.conf": r"^listen = (.+)$", "packaging/stunnel/bovtrila.conf": r"^accept = :::(\d+)$",
@@ -55,6 +56,17 @@ def addresses(top: pathlib.Path) -> Region:
     return Region(PAGE, "addresses", ("Set in | Address or port | Listens there", *rows), by_hand=1)
 
 
+def network_timers(top: pathlib.Path) -> Region:
+    """The timers of a network, in the order in which they start."""
+    rows = []
+    for file in top.glob("packaging/network/*.timer"):
+        found = re.search(r"^OnCalendar=\*-\*-\* (\d\d:\d\d)$", file.read_text(), re.M)
+        if not found:
+            raise Wrong(f"packaging/network/{file.name}: no time of each day is there; scripts/dev/fact_packaging.py has to be changed with it")
+        rows.append((found[1], file.stem))
+    return Region(NETWORK_PAGE, "timers of a network", ("Timer | At | Does", *(f"`{name}` | {time}" for time, name in sorted(rows))), by_hand=1)
+
+
 def regions(top: pathlib.Path) -> list[Region]:
-    """The regions of docs/operate/OPERATING.md."""
-    return [units(top), addresses(top)]
+    """The regions of both pages."""
+    return [units(top), addresses(top), network_timers(top)]

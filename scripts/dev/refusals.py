@@ -129,7 +129,7 @@ def read_edit(file: pathlib.Path) -> Edit:
 
 
 def edits_of(top: pathlib.Path, name: str) -> list[Edit]:
-    """The wrong bodies of a crate, those that the gate tries first."""
+    """The wrong bodies of a crate, those that `rt ci` tries first."""
     folder = top / "crates" / name
     return [read_edit(file) for part in ("must-fail", "wrong-bodies") for file in sorted((folder / part).glob("*.edit"))]
 

@@ -291,8 +291,8 @@ class Journals(Told):
     def reading_by(self, table: Place, *revised: Place) -> list[list[Place]]:
         """The words of each command that reads the journal by this table."""
         return [self.serving(table=table, revised=revised),
-                *([command, "--table", table, "--journal", self.journal, *revised]
-                  for command in ("verify", "history", "balances"))]
+                *([*self.by_table(command, table, self.journal), *revised]
+                  for command in ("verify", "history", "balances", "statement"))]
 
     def test_a_journal_that_is_made_is_told(self) -> None:
         starts: list[list[str]] = [[f"new journal {self.journal}\n"], []]
@@ -466,6 +466,12 @@ class Tables(Told):
                 ('"off-peak"', '"peek"', "5 Range cap.kind 3", 'line 28: "peek"; "anytime" or "off-peak"'),
                 ("low = 1, high = 2", "low = 2, high = 1", "5 Range single.high 2",
                  f"line 18: 1; {zone}, not below low"),
+                ("lo = 2, hi = 2", "lo = 2, hi = 1", "5 Range pair.hi 1", f"line 24: 1; {zone}, not below lo"),
+                ("lo = 1, hi = 3", "lo = 4, hi = 3", "5 Range cap.hi 2", f"line 27: 3; {zone}, not below lo"),
+                ("peak = 300, off_peak = 250", "peak = 300, off_peak = 301", "5 Range single.off_peak 1",
+                 f"line 17: 301; {price}, not above peak"),
+                ("peak = 230, off_peak = 200", "peak = 230, off_peak = 231", "5 Range pair.off_peak 1",
+                 f"line 24: 231; {price}, not above peak"),
                 ("b = 4", "b = 1", "5 Range interchange.b 1", f"line 30: 1; {number}, not a"),
                 ('name = "Birch", ', "", "3 Missing station.name 2", "line 11: no name; a text of 1 to 64 bytes"),
                 ("evening_rule = true\n", "", "3 Missing evening_rule 0", "no evening_rule; true or false"),
@@ -489,7 +495,9 @@ class Tables(Told):
                 ("peak = 350", "peak = [\n  1, # ]\n]", "4 WrongType single.peak 2",
                  "line 29: a list of 1; a whole number from 1 to 10000"),
                 ('"Mill Lane"', '"""[[station]]\nid = 2"""\nzone = 3', "5 Range station.zones 2",
-                 "line 20: a list of 1; one zone from 1 to 9, or two in ascending order")):
+                 "line 20: a list of 1; one zone from 1 to 9, or two in ascending order"),
+                ('"Mill Lane"\nzones = [2]', "'Mill\\'\nzones = [10]", "5 Range station.zones 2",
+                 "line 18: a list of 1; one zone from 1 to 9, or two in ascending order")):
             text = SMALL.replace(old, new, 1)
             if "zone = 3" in new:
                 text = text.replace("zones = [2]", "zones = [10]")
@@ -522,8 +530,12 @@ class Tables(Told):
                              "line 19: 310; at most maximum_off_peak, 309"),
                             ([("maximum_off_peak = 700", "maximum_off_peak = 901")],
                              "line 7: 901; at most maximum_peak, 900"),
+                            ([("peak = 400, off_peak = 310", "peak = 901, off_peak = 310")],
+                             "line 19: 901; at most maximum_peak, 900"),
                             ([("peak = 230, off_peak = 200", "peak = 901, off_peak = 200")],
-                             "line 24: 901; at most maximum_peak, 900")):
+                             "line 24: 901; at most maximum_peak, 900"),
+                            ([("peak = 230, off_peak = 200", "peak = 900, off_peak = 701")],
+                             "line 24: 701; at most maximum_off_peak, 700")):
             path = self.changed(*pairs)
             self.assert_refused(path, "fault table 9 MaximumTooLow", f"  {path}: {said}")
             self.assert_checked(path, 1, "fault table 9 MaximumTooLow\n", f"  {path}: {said}")
@@ -613,13 +625,19 @@ class Notes(Told):
         pounds = "note: all prices are below 10 pence; are they meant as pounds?"
         cap = "note: cap.price in row 1 is {}, below the {} of the single in row {}"
         off_peak = SMALL.replace('"anytime"', '"off-peak"')
+        zone_two, second = SMALL.replace("lo = 1\n", "lo = 2\n"), off_peak.partition("[[cap]]")
+        dear = re.sub(r"^(peak|off_peak|price)( = )\d+", r"\1\g<2>7", SMALL, flags=re.M)
         for text, notes in ((SMALL, []), (moved, ["note: holidays belongs above the first [[..]], line 9"]),
-                            (low, [pounds]), (nine, [pounds]), (ten, []),
+                            (low, [pounds]), (nine, [pounds]), (ten, []), (dear, []),
                             (SMALL.replace("850", "350"), []), (SMALL.replace("850", "349"), [cap.format(349, 350, 2)]),
                             (SMALL.replace("850", "299"), [cap.format(299, 300, 1)]),
                             (off_peak.replace("850", "290"), []),
                             (off_peak.replace("850", "289"), [cap.format(289, 290, 2)]),
                             (SMALL.replace("850", "349").replace("hi = 2", "hi = 1"), []),
+                            (zone_two.replace("850", "210"), []),
+                            (zone_two.replace("850", "209"), [cap.format(209, 210, 3)]),
+                            (SMALL + "".join(second[1:]).replace("850", "289"),
+                             ["note: cap.price in row 2 is 289, below the 290 of the single in row 2"]),
                             (SMALL.replace("[[cap]]", "[[caps]]"), ["note: caps isn't known; is cap meant?"])):
             path, found = self.noted(text)
             with self.subTest(notes):

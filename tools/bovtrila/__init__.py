@@ -2,8 +2,8 @@
 """The commands bovtrila-NAME, each the function `main` of a module of bovtrila.commands, and what they share.
 
 - The command line: options. Where files are: places.
-- The protocol: codec, wire, secured. Fare tables: table_rows, table_file. The reference model of a station: model, with
-  files of vectors in vector_file.
+- The protocol: codec, wire, secured; the header of HAProxy: proxied. Fare tables: table_rows, table_file. The reference
+  model of a station: model, with files of vectors in vector_file.
 - Journals: layout, journal_tail, journal_view. Copies of them: copies.
 - A server and its settings: serving, settings, condition, overview, certificates, rehearsal, fare_changes; the change to a
   new journal: due, old_server, handover, handover_steps.

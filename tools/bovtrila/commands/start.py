@@ -1,8 +1,8 @@
 # SPDX-License-Identifier: Apache-2.0
 """Starts a server with its settings file, or tries that file without serving.
 
-The file has one setting per line, NAME = VALUE; /usr/share/bovtrila/serve.conf shows all of them. The units bovtrila and
-bovtrila@NAME start the server by this command. With --wait they delay the end of `systemctl start` until the server
+The file has one setting per line, NAME = VALUE; /usr/share/bovtrila/serve.conf shows the usual ones. The units bovtrila
+and bovtrila@NAME start the server by this command. With --wait they delay the end of `systemctl start` until the server
 listens. If a line is wrong, the script reports its number, and doesn't start the server.
 
 With --check nothing is changed, and no server is started that a gate could reach. The script tries the arguments as they
