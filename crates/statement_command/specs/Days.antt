@@ -1,6 +1,11 @@
 -- The fare days that a statement is asked for (COMMANDS.md, "statement"; this project's choice).
 use Rattle.std.specs.Prelude.{ℤ, Bool, true, false, ◌&&◌, int_le, int_lt, Option, Some, None}
+use Rattle.command_line.specs.declared.statement.Statement.{Statement}
 use Rattle.statement_command.specs.declared.days.Days.{Days}
+
+-- the days that a command line names
+abbrev pub days_by : Statement → Days
+days_by asked = record { from = asked.from; to = asked.to }
 
 -- the day is this one or after it, if there is one
 abbrev pub is_from : Option ℤ → ℤ → Bool

@@ -1,5 +1,11 @@
 //! The command `statement`: a card's statement from a journal's file.
 
+ghost use Rattle.std.specs.Prelude.{◌≡◌, ◌⊎◌, Err, IfOk, IfErr, OnOk, map};
+ghost use Rattle.std.specs.Process.{exit_status};
+ghost use Rattle.journal_audit.specs.Words.{HasTold, IsUnread};
+ghost use Rattle.statement_command.specs.Journal.{IsStatement, HasTold as IsTold};
+ghost use Rattle.statement_command.specs.Days.{days_by};
+
 use crate::days::Days;
 use crate::journal::write_statement;
 use command_line::Statement;
@@ -22,7 +28,19 @@ pub fn tell_statement<R: AllocGlobal + Eprint, F: WholeFiles, W: Write>(
     files: &F,
     asked: &Statement<'_>,
     writer: &mut W,
-) -> Result<ExitCode, CommandFault> {
+) -> Result<ExitCode, CommandFault>
+    ensures ok { OnOk result (HasTold (F.gave files.now) asked.now.table.now
+        (map (λ word. word.now) asked.now.revisions.items) asked.now.journal.now
+        (W.contents writer.old) (W.contents writer.new) (λ tables bytes text.
+        IsStatement tables asked.now.card (days_by asked.now) asked.now.format bytes text)) }
+    ensures status { IfOk result (λ status. exit_status status ≡ 0) }
+    ensures fault { IfErr result (λ fault. (IsUnread (F.gave files.now) asked.now.table.now
+        (map (λ word. word.now) asked.now.revisions.items) fault × (writer.new ≡ writer.old))
+        ⊎ HasTold (F.gave files.now) asked.now.table.now
+        (map (λ word. word.now) asked.now.revisions.items) asked.now.journal.now
+        (W.contents writer.old) (W.contents writer.new) (λ tables bytes text.
+        IsTold tables asked.now.card (days_by asked.now) asked.now.format bytes text (Err fault))) }
+{
     let alloc = rt.alloc();
     let schedule = tables_in(alloc, files, Some(asked.table), asked.revisions.as_slice())?;
     let Settled { bytes, behind } = settled_file(rt, files, asked.journal)?;
