@@ -1,6 +1,6 @@
-//! The tap server's program: it reads its command line, calls what is proved, and prints. Its main
-//! promises are those of `replay_text` and `check_table`, in the crates below: what is written is a
-//! stated function of what is read.
+//! The program `bovtrila`: it reads its command line, calls the proved function of the command, and
+//! ends with its status. Its promises are those of the crates below: what is written is a stated
+//! function of what is read.
 #![tactic(auto)]
 
 use command_line::{Arguments, Check, arguments_of, words_of};
