@@ -7,12 +7,13 @@ from fact_places import Place
 
 VERDICT = "crates/oyster_account/src/verdict.rt"
 ANSWER = "crates/gate_session/src/answer.rt"
+SHARED = "crates/station_limits/src/limits.rt"
 # Where each limit is that the regions name.
 LIMITS = {
     "FIRST_REFUSAL": VERDICT,
-    "HISTORY_LIMIT": "crates/oyster_account/src/card.rt",
+    "HISTORY_LIMIT": SHARED,
     "TOP_UP_LIMIT": "crates/oyster_account/src/refusal.rt",
-    "CARD_LIMIT": "crates/reply_book/src/book.rt",
+    "CARDS_LIMIT": SHARED,
     "HIGHEST_BALANCE": "crates/fare_table/src/key.rt",
     "FARE_DAY_START": "crates/money_time/src/stamp.rt",
 }

@@ -7,7 +7,7 @@ import pathlib
 import fact_frames
 import fact_regions
 import fact_texts
-from fact_code import Wrong
+from fact_code import SHARED, Wrong
 from fact_places import Pair, Place, braces
 
 LUA = "clients/wireshark/bovtrila.lua"
@@ -86,8 +86,7 @@ FACTS: dict[str, tuple[Place | Read, list[Place]]] = {
             Place(LUA, r"^ {4}(?P<name>\w+) = ProtoField", r"^local fields = \{", r"^\}", more=True),
         ]),
     "the most touches of a history": (
-        Place("crates/oyster_account/src/card.rt", r"const HISTORY_LIMIT: u32 = (?P<code>[\d_]+);"), [
-            Place("crates/command_line/src/arguments.rt", r"const CAPACITY_LIMIT: u32 = (?P<code>[\d_]+);"),
+        Place(SHARED, r"const HISTORY_LIMIT: u32 = (?P<code>[\d_]+);"), [
             Place("crates/command_line/src/commands/gates.rt", r"journal has room for, from 1 to (?P<code>\d+)"),
             Place("crates/command_line/src/commands/audits.rt",
                   r"(?:another capacity; N from 1|first N touches, from 0|N from 0) to (?P<code>\d+)"),
@@ -103,9 +102,7 @@ FACTS: dict[str, tuple[Place | Read, list[Place]]] = {
             Place("scripts/tests/test_audit.py", r"^BEHIND = (?P<code>\d+)$"),
         ]),
     "the most cards of a station": (
-        Place("crates/reply_book/src/book.rt", r"const CARD_LIMIT: u32 = (?P<code>[\d_]+);"), [
-            Place("crates/command_line/src/arguments.rt", r"const CARDS_LIMIT: u32 = (?P<code>[\d_]+);"),
-            Place("crates/tap_journal/src/layout.rt", r"const CARDS_LIMIT: u32 = (?P<code>[\d_]+);"),
+        Place(SHARED, r"const CARDS_LIMIT: u32 = (?P<code>[\d_]+);"), [
             Place("crates/command_line/src/commands/*.rt",
                   r"(?:number of cards|the card|this card|was made with)[,;] (?:N )?from 1 to (?P<code>\d+)"),
             Place("docs/reference/JOURNAL.md", r"number of cards, 1 to (?P<code>[\d,]+)"),
@@ -114,16 +111,22 @@ FACTS: dict[str, tuple[Place | Read, list[Place]]] = {
             Place("scripts/tests/clients.py", r"1 <= cards <= (?P<code>[\d_]+)"),
         ]),
     "the bytes of a digest": (
-        Place("crates/fare_table/src/digests.rt", r"const DIGEST_SIZE: usize = (?P<code>\d+);"), [
-            Place("crates/tap_journal/src/layout.rt", r"const DIGEST_SIZE: usize = (?P<code>\d+);"),
-            Place("crates/command_line/src/seal.rt", r"const SEAL_SIZE: usize = (?P<code>\d+);"),
+        Place("crates/station_limits/src/digest.rt", r"const DIGEST_SIZE: usize = (?P<code>\d+);"), [
             Place(SOURCE, r"DIGEST_SIZE = (?P<code>\d+)$"),
         ]),
     "the most lines of a server": (
-        Place("crates/tap_office/src/opening.rt", r"const SEAT_LIMIT: u16 = (?P<code>\d+);"), [
-            Place("crates/command_line/src/arguments.rt", r"const LINES_LIMIT: u32 = (?P<code>\d+);"),
+        Place(SHARED, r"const LINES_LIMIT: u32 = (?P<code>\d+);"), [
             Place("crates/command_line/src/commands/gates.rt", r"served at once, from 1 to (?P<code>\d+)"),
             Place("docs/reference/COMMANDS.md", r"served at once, 1 to (?P<code>\d+)"),
+        ]),
+    "the most bytes of a certificate's name": (
+        Place(SHARED, r"const CERTIFICATE_NAME_LIMIT: usize = (?P<code>\d+);"), [
+            Place("crates/proxy_header/src/fault.rt", r"longer than (?P<code>\d+) bytes"),
+            Place("crates/door_check/src/standing.rt", r"a text of 1 to (?P<code>\d+) bytes"),
+        ]),
+    "Linux's number of ENFILE": (
+        Place("crates/tcp_line/src/shortage.rt", r"const ENFILE: i32 = (?P<code>\d+);"), [
+            Place("crates/console/src/refusal.rt", r"const ENFILE: i32 = (?P<code>\d+);"),
         ]),
     **{f"the limit of --{option}": (
         Place("crates/command_line/src/arguments.rt", rf"const {option.upper()}_LIMIT: u32 = (?P<code>[\d_]+);"), [

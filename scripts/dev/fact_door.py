@@ -5,7 +5,7 @@ import re
 
 import fact_faults
 import fact_keys
-from fact_code import Wrong, text_of
+from fact_code import SHARED, Wrong, text_of
 
 KEY, KIND, FAULT = (f"crates/door_file/src/{name}.rt" for name in ("key", "kind", "fault"))
 TEXT = re.compile(r'Key::(\w+) => "(\w+)",')
@@ -23,12 +23,12 @@ def kinds(top: pathlib.Path) -> list[str]:
 def keys(top: pathlib.Path) -> list[tuple[str, str, str]]:
     """Each key with its type and its range, in words, in the order in which their faults are looked for."""
     text = text_of(top, KEY)
-    known = {name: value.replace("_", "") for name, value in fact_keys.constants(text).items()}
+    known = {name: value.replace("_", "") for name, value in fact_keys.constants(text_of(top, SHARED) + text).items()}
     texts, shapes = dict(TEXT.findall(text)), {match["name"]: match for match in SHAPE.finditer(text)}
     words = ", ".join(f"`{word}`" for word in kinds(top))
     ranges = {
         "Rules": ("list of tables", f"1 to {int(known['MOST_RULES']):,} rules"),
-        "Name": ("text", f"1 to {known['LONGEST_NAME']} bytes, unlike each other rule's"),
+        "Name": ("text", f"1 to {known['CERTIFICATE_NAME_LIMIT']} bytes, unlike each other rule's"),
         "Gates": ("list of whole numbers and pairs", f"each number 1 to {int(known['HIGHEST_GATE']):,}; no pair descends"),
         "Kinds": ("list of texts", f"at least one of {words}; none twice"),
     }

@@ -127,7 +127,7 @@ class Frames:
             Region(HEADER, "kinds", self.header()),
             Region(HEADER, "limits", self.limits_in_header()),
             Region(SOURCE, "frames", self.source()),
-            Region(SOURCE, "limits", (f"    CARDS_LIMIT = {self.limits['CARD_LIMIT']}",)),
+            Region(SOURCE, "limits", (f"    CARDS_LIMIT = {self.limits['CARDS_LIMIT']}",)),
             Region(LUA, "kinds", filled(self.by_number(names), 4)),
             Region(LUA, "lengths", filled(self.by_number(str(kind.length) for kind in self.kinds), 4)),
             Region(LUA, "fields", self.lua_fields()),

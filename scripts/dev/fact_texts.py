@@ -83,7 +83,7 @@ class Faults:
 
 def carrying(limits: dict[str, int]) -> Region:
     """The limits that bovtrila-carry-over keeps to."""
-    found = ", ".join(f"{limits[name]:_}" for name in ("CARD_LIMIT", "TOP_UP_LIMIT", "HIGHEST_BALANCE"))
+    found = ", ".join(f"{limits[name]:_}" for name in ("CARDS_LIMIT", "TOP_UP_LIMIT", "HIGHEST_BALANCE"))
     return Region(CARRYING, "limits", (f"CARDS, TOP_UP, LIMITS = {found}",))
 
 

@@ -76,7 +76,7 @@ class ReleaseRefused(ReleaseTest):
                             "gate_send isn't built and proved of these sources: run bin/gate_send --help")
 
     def test_a_program_that_is_built_of_other_sources(self) -> None:
-        with open(self.top / "crates" / "gate_send" / "src" / "arguments.rt", "a") as file:
+        with open(self.top / "crates" / "gate_send" / "src" / "main.rt", "a") as file:
             file.write("// other\n")
         subprocess.run([sys.executable, "-B", "-c", NOTES.replace("'gate_send'", "'tap_server'")],
                        cwd=self.top / "scripts" / "dev", check=True)

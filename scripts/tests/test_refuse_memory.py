@@ -408,6 +408,9 @@ class Tests(Refusals):
     def test_a_gates_file_on_a_disk_in_memory(self) -> None:
         self.sweep("gate_tests", "tests::of_gate_client::memory::a_refused_allocation_is_memory_or_device", 10)
 
+    def test_a_run_of_a_gate(self) -> None:
+        self.sweep("gate_command_tests", "tests::memory::a_run_that_was_refused_memory_is_begun_again", 20)
+
     def test_a_replay_of_a_revision(self) -> None:
         self.sweep("replay_tests", "tests::of_line_replay::memory::a_replay_that_was_refused_memory_is_begun_again", 100)
 

@@ -78,10 +78,6 @@ before-below d e (f ∷ days) before has =
     ]
 
 -- the latest day has a row, and no journey or incomplete touch is of a later one
-up-latest : {X : Type 0} (day_of : X → ℤ) (x : X) (xs : List X) (day : ℤ) → AreUpTo day_of (day_of x) xs →
-    day_of x ≤ℤ day → AreUpTo day_of day (x ∷ xs)
-up-latest day_of x xs day up below = (below, up)
-
 pub record IsLatest (made : List Journey) (missed : List Incomplete) (day : ℤ) : Type 0 where
   pub has : has_row made missed day ≡ true
   pub made_up : AreUpTo journey_day day made

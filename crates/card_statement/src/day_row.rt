@@ -2,8 +2,8 @@
 
 ghost use Rattle.std.specs.Prelude.{◌≡◌, ◌≤◌, ◌+◌, ◌*◌, ◌^◌, map, sum_by, length, IfOk};
 ghost use Rattle.std.specs.Prelude.{Option};
+ghost use Rattle.station_limits.specs.declared.limits.TheConstants.{HISTORY_LIMIT};
 ghost use Rattle.fare_table.specs.declared.rows.Cap.{Cap};
-ghost use Rattle.oyster_account.specs.declared.card.TheConstants.{HISTORY_LIMIT};
 ghost use Rattle.card_statement.specs.NamedCap.{is_covered_by};
 ghost use Rattle.card_statement.specs.Incomplete.{pence_missing};
 ghost use Rattle.card_statement.specs.Day.{journey_row, row_of_day, content_of_day};

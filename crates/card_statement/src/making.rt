@@ -2,9 +2,9 @@
 
 ghost use Rattle.std.specs.Prelude.{◌≡◌, ◌≤◌, ◌<◌, ◌^◌, List, [], ◌∷◌, ◌++◌, length, map, reverse};
 ghost use Rattle.std.specs.Prelude.{sum_by, true, None, IfOk};
+ghost use Rattle.station_limits.specs.declared.limits.TheConstants.{HISTORY_LIMIT};
 ghost use Rattle.oyster_account.specs.declared.touch.Act.{Act};
 ghost use Rattle.oyster_account.specs.declared.reply.Judged.{Judged};
-ghost use Rattle.oyster_account.specs.declared.card.TheConstants.{HISTORY_LIMIT};
 ghost use Rattle.oyster_account.specs.Scheme.{scheme_of};
 ghost use Rattle.oyster_account.specs.Travel.{travel};
 ghost use Rattle.oyster_account.specs.Journey.{journeys};

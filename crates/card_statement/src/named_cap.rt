@@ -1,7 +1,7 @@
 //! The charge for the journeys of one fare day, and the cap that a statement names for the day.
 
 ghost use Rattle.std.specs.Prelude.{◌≡◌, ◌≤◌, ◌*◌, ◌^◌, sum_by, length};
-ghost use Rattle.oyster_account.specs.declared.card.TheConstants.{HISTORY_LIMIT};
+ghost use Rattle.station_limits.specs.declared.limits.TheConstants.{HISTORY_LIMIT};
 ghost use Rattle.oyster_account.specs.Journey.{pence_of};
 ghost use Rattle.oyster_account.specs.Charge.{capped, day_charge};
 ghost use Rattle.card_statement.specs.NamedCap.{applied_cap};

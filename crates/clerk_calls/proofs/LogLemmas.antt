@@ -1,6 +1,6 @@
 -- That a session of a clerk of a log is a run of steps.
 use Rattle.std.proofs.Common.{◌≡◌, ◌⊎◌, inl, inr, ℕ, zero, suc, ◌+◌, ◌-◌, ◌≤◌, List, [], ◌∷◌, ◌++◌, length, take}
-use Rattle.std.proofs.Common.{refl, sym, ap, ◌∙◌, subst, arith, Some, append_assoc}
+use Rattle.std.proofs.Common.{refl, sym, ap, ◌∙◌, subst, arith, Some}
 use Rattle.std.specs.Prelude.{Contains, slice_get}
 use Rattle.oyster_account.specs.declared.touch.Touch.{Touch}
 use Rattle.oyster_account.specs.declared.reply.Reply.{Reply}
@@ -19,17 +19,14 @@ use Rattle.gate_session.specs.declared.answer.Answer.TheVariants as answers
 use Rattle.gate_session.specs.Clerk.{IsRun as IsClerksRun}
 use Rattle.gate_law.specs.Joint.{Joint}
 use Rattle.gate_session.specs.declared.session.Served.{Served}
-use Rattle.gate_session.specs.Session.{Exchange, IsSession, IsRefused, IsAnswerCut, IsRefusalCut, joined, refusal}
-use Rattle.text_io.specs.Writing.{IsBeginning}
+use Rattle.gate_session.specs.Session.{Exchange, IsSession, IsRefused, IsAnswerCut, IsRefusalCut, refusal}
 use Rattle.gate_law.specs.Premises.{Line}
-use Rattle.gate_law.specs.Lines.{AreFirstOf}
-use Rattle.gate_law.proofs.ListLemmas.{contained, placed}
-use Rattle.gate_law.proofs.LineLemmas.{requests as bring_requests, by_line}
+use Rattle.gate_law.proofs.LineLemmas.{by_line}
 use Rattle.tap_desk.specs.Listed.{BeginsWith}
 use Rattle.gate_law.specs.Station.{IsStationOf}
 use Rattle.gate_law.specs.Sessions.{WereSent, served_in}
 use Rattle.gate_law.proofs.StationLemmas.{Serves, stays, then, tells, answered, unanswered}
-use Rattle.gate_law.proofs.SessionLemmas.{IsWhole, ways, session-written}
+use Rattle.gate_law.proofs.SessionLemmas.{IsWhole, ways, sent-head, sent-tail, handed-first, session-written}
 use Rattle.gate_law.proofs.OpeningLemmas.{lock-last, new-last}
 use Rattle.clerk_calls.proofs.EntryLemmas.{take-next, stands-below, front-of, begins-before}
 use Rattle.clerk_calls.specs.Logged.{Log, station_at, IsFromPoint, IsBeside, DoesFromLog, KeepsLog}
@@ -103,17 +100,7 @@ module _ (log : Log) (legal : IsLegal log.tables log.cards (history_of log.entri
         replied = refl;
       })
 
--- ---- which requests were sent
-
--- the first of these requests, and the others
-sent-head : (r : Request) (rs : List Request) (sent : List Touch) → WereSent (r ∷ rs) sent → (touch : Touch)
-    → r ≡ requests.Touch touch → Contains sent touch
-sent-head r rs sent were touch is = were touch (contained (r ∷ rs) 0 (requests.Touch touch) (ap Some is))
-
-sent-tail : (r : Request) (rs : List Request) (sent : List Touch) → WereSent (r ∷ rs) sent → WereSent rs sent
-sent-tail r rs sent were touch there =
-    let at = placed rs (requests.Touch touch) there in
-    were touch (contained (r ∷ rs) (suc at.0) (requests.Touch touch) at.1)
+-- ---- requests and answers
 
 -- the station comes to what the log had at a later count, with these answers more
 pub record Reaches (gate : ℕ) (log : Log) (count : ℕ) (s : Joint) (sent : List Answer) : Type 0 where
@@ -350,14 +337,6 @@ module _ {C : Type 0} (gives : C → Request → Answer → C → Type 0) (point
 
 -- ---- a session
 
--- what the pieces give begins the line of which the bytes are a beginning
-pieces-begin : (bytes line pieces lost : List ℕ) → IsBeginning bytes line → bytes ≡ pieces ++ lost
-    → IsBeginning pieces line
-pieces-begin bytes line pieces lost begins read = (
-  lost ++ begins.0,
-  begins.1 ∙ ap (λ (l : List ℕ). l ++ begins.0) read ∙ append_assoc pieces lost begins.0,
-)
-
 pub session-logged : {C : Type 0} (gives : C → Request → Answer → C → Type 0) (points : C → List (List Entry))
     (seen : C → ℕ) (found : ℕ) → KeepsLog gives points seen found → (old new : C) (turns : ℕ) (served : Served)
     (bytes text : List ℕ) → (is : IsSession gives old new turns served bytes text)
@@ -365,13 +344,7 @@ pub session-logged : {C : Type 0} (gives : C → Request → Answer → C → Ty
 session-logged gives points seen found keeps old new turns served bytes text is log of gate count s line written
     logged at lined begins sent =
     let e = is.exchange in
-    let first : AreFirstOf e.handed written =
-    bring_requests line (joined is.pieces) written e.handed lined
-    (pieces-begin bytes line (joined is.pieces) is.lost begins is.read) (record {
-      rest = e.rest;
-      fits = is.is.first.fits;
-      parts = is.is.first.parts;
-    }) in
+    let first = handed-first gives old new turns served bytes text line written is lined begins in
     let were : WereSent e.handed s.sent =
     λ touch there. sent touch (by_line Request e.handed written (requests.Touch touch) first there) in
     let all = serves-all gives points seen found keeps log of.legal gate s count old new e is.is.run of.begins at

@@ -1,11 +1,12 @@
 -- Which command lines are allowed (COMMANDS.md; this project's choice). proofs/Examples.antt
 -- computes the limits.
 use Rattle.std.specs.Prelude.{◌≡◌, ◌≤◌, ◌≤ℤ◌, ℤ, IfSome, length, Option, Some, None}
+use Rattle.station_limits.specs.declared.digest.TheConstants.{DIGEST_SIZE}
+use Rattle.station_limits.specs.declared.limits.TheConstants.{CARDS_LIMIT, HISTORY_LIMIT}
+use Rattle.station_limits.specs.declared.limits.TheConstants.{LINES_LIMIT}
 use Rattle.program_options.specs.Numbers.{IsWithin}
 use Rattle.command_line.specs.declared.arguments.Arguments.{Arguments}
 use Rattle.command_line.specs.declared.arguments.Arguments.TheVariants as asked
-use Rattle.command_line.specs.declared.arguments.TheConstants.{CARDS_LIMIT, CAPACITY_LIMIT}
-use Rattle.command_line.specs.declared.arguments.TheConstants.{LINES_LIMIT}
 use Rattle.command_line.specs.declared.arguments.TheConstants.{CONNECTIONS_LIMIT, IDLE_LIMIT}
 use Rattle.command_line.specs.declared.arguments.TheConstants.{REPORT_LIMIT}
 use Rattle.command_line.specs.declared.arguments.Verify.{Verify}
@@ -16,7 +17,6 @@ use Rattle.command_line.specs.declared.check.Journey.{Journey}
 use Rattle.command_line.specs.declared.history.History.{History}
 use Rattle.command_line.specs.declared.seal.Seal.{Seal}
 use Rattle.command_line.specs.declared.seal.Sealed.{Sealed}
-use Rattle.command_line.specs.declared.seal.TheConstants.{SEAL_SIZE}
 use Rattle.command_line.specs.declared.serve.Serve.{Serve}
 use Rattle.command_line.specs.declared.statement.Statement.{Statement}
 
@@ -26,7 +26,7 @@ use Rattle.command_line.specs.declared.statement.Statement.{Statement}
 -- seconds
 pub record IsServeAllowed (serve : Serve) : Type 0 where
   pub cards : IsWithin CARDS_LIMIT serve.cards
-  pub capacity : IsWithin CAPACITY_LIMIT serve.capacity
+  pub capacity : IsWithin HISTORY_LIMIT serve.capacity
   pub lines : IsWithin LINES_LIMIT serve.lines
   pub connections : IfSome serve.connections (IsWithin CONNECTIONS_LIMIT)
   pub idle : IfSome serve.idle (IsWithin IDLE_LIMIT)
@@ -34,7 +34,7 @@ pub record IsServeAllowed (serve : Serve) : Type 0 where
 
 -- a seal is of at most 1,000,000 touches, and its digest has 32 bytes
 abbrev pub IsSealedAllowed : Sealed → Type 0
-IsSealedAllowed sealed = (sealed.touches ≤ CAPACITY_LIMIT) × (length sealed.digest ≡ SEAL_SIZE)
+IsSealedAllowed sealed = (sealed.touches ≤ HISTORY_LIMIT) × (length sealed.digest ≡ DIGEST_SIZE)
 
 -- a journal is held against such a seal, if against any
 abbrev pub IsSealAllowed : Seal → Type 0
@@ -44,7 +44,7 @@ IsSealAllowed seal = IfSome seal.kept IsSealedAllowed
 pub record IsVerifyAllowed (verify : Verify) : Type 0 where
   pub seal : IsSealAllowed verify.seal
   pub cards : IfSome verify.expect_cards (IsWithin CARDS_LIMIT)
-  pub capacity : IfSome verify.expect_capacity (IsWithin CAPACITY_LIMIT)
+  pub capacity : IfSome verify.expect_capacity (IsWithin HISTORY_LIMIT)
 
 -- a card has one of 100,000 numbers
 abbrev pub IsHistoryAllowed : History → Type 0
@@ -63,7 +63,7 @@ pub record IsStatementAllowed (statement : Statement) : Type 0 where
 
 -- balances are told after at most 1,000,000 touches
 abbrev pub IsBalancesAllowed : Balances → Type 0
-IsBalancesAllowed balances = IfSome balances.at (λ touches. touches ≤ CAPACITY_LIMIT)
+IsBalancesAllowed balances = IfSome balances.at (λ touches. touches ≤ HISTORY_LIMIT)
 
 -- stations have numbers from 1
 pub record IsJourneyAllowed (journey : Journey) : Type 0 where

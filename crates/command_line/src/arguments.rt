@@ -17,15 +17,10 @@ use crate::statement::{Statement, statement_asked};
 use clap::error::ErrorKind;
 use clap::{ArgMatches, Command, Error};
 use program_options::{NOT_DECIMAL, number_given};
+use station_limits::{CARDS_LIMIT, HISTORY_LIMIT};
 use std::alloc::{AllocError, Global};
 use std::rt::Env;
 
-/// The most cards that a station has.
-pub const CARDS_LIMIT: u32 = 100_000;
-/// The most touches that a journal has room for.
-pub const CAPACITY_LIMIT: u32 = 1_000_000;
-/// The most lines of a server.
-pub const LINES_LIMIT: u32 = 64;
 /// The most connections of a line.
 pub const CONNECTIONS_LIMIT: u32 = 1_000_000;
 /// The most seconds that a connection may be silent before it is ended.
@@ -285,7 +280,7 @@ fn verify_asked<'a>(matches: &ArgMatches<'a>, revisions: Vec<&'a str>) -> Option
     let table = matches.get_str("table");
     let seal = seal_asked(matches)?;
     let expect_cards = number_given(matches, "expect-cards", 1, CARDS_LIMIT)?;
-    let expect_capacity = number_given(matches, "expect-capacity", 1, CAPACITY_LIMIT)?;
+    let expect_capacity = number_given(matches, "expect-capacity", 1, HISTORY_LIMIT)?;
     let gate = gate_asked(matches)?;
     Some(Arguments::Verify(Verify {
         journal,

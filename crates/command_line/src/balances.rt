@@ -3,9 +3,9 @@
 ghost use Rattle.std.specs.Prelude.{IfSome};
 ghost use Rattle.command_line.specs.Arguments.{IsBalancesAllowed};
 
-use crate::arguments::CAPACITY_LIMIT;
 use clap::ArgMatches;
 use program_options::number_given;
+use station_limits::HISTORY_LIMIT;
 
 /// What the balances of a journal's cards are asked for.
 #[derive(Debug, PartialEq, Eq, Drop)]
@@ -30,7 +30,7 @@ pub(crate) fn balances_asked<'a>(
 {
     let table = matches.get_str("table")?;
     let journal = matches.get_str("journal")?;
-    let at = number_given(matches, "at", 0, CAPACITY_LIMIT)?;
+    let at = number_given(matches, "at", 0, HISTORY_LIMIT)?;
     Some(Balances {
         table,
         journal,

@@ -8,7 +8,7 @@ use self::audits::{BALANCES, HISTORY, STATEMENT, VERIFY};
 use self::gates::{CHECK, MIGRATE, REPLAY, SERVE};
 use crate::number::{WrongNumber, wrong_value};
 use clap::{Arg, ArgAction, ArgMatches, Command, Error};
-use program_options::VERSION;
+use program_options::{VERSION, flag, option};
 use std::alloc::{AllocError, Global};
 
 /// The program's name in its help, whatever file it is started from.
@@ -182,7 +182,7 @@ fn arg_of<'a>(alloc: Global, parameter: &Parameter) -> Result<Arg<'a>, AllocErro
 fn taking<'a>(alloc: Global, parameter: &Parameter) -> Arg<'a> {
     let name = parameter.name;
     match parameter.takes {
-        Takes::Flag => Arg::new(alloc, name).long(name).action(ArgAction::SetTrue),
+        Takes::Flag => flag(alloc, name),
         Takes::Text(value) => option(alloc, name).value_name(value),
         Takes::Pair(values) => option(alloc, name).num_args(2).value_names(values),
         Takes::Three(values) => option(alloc, name).num_args(3).value_names(values),
@@ -190,11 +190,6 @@ fn taking<'a>(alloc: Global, parameter: &Parameter) -> Arg<'a> {
         Takes::Number(value, _) => option(alloc, name).value_name(value),
         Takes::Revisions => revisions(alloc, name),
     }
-}
-
-/// An option with a value.
-fn option<'a>(alloc: Global, name: &'a str) -> Arg<'a> {
-    Arg::new(alloc, name).long(name).action(ArgAction::Set)
 }
 
 /// The files of further fare tables, as the last words of a command.

@@ -3,10 +3,10 @@
 ghost use Rattle.std.specs.Prelude.{IfSome};
 ghost use Rattle.command_line.specs.Arguments.{IsHistoryAllowed};
 
-use crate::arguments::CARDS_LIMIT;
 use clap::ArgMatches;
 use money_time::day_of;
 use program_options::number_given;
+use station_limits::CARDS_LIMIT;
 
 /// The words for the forms of a history.
 pub(crate) const FORMATS: &[&str] = &["csv", "frames"];

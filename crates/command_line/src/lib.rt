@@ -1,6 +1,7 @@
 //! The command line of the program: what its words ask for, with each number within its limits.
 //!
-//! `arguments_of` carries it. It stands on `clap` and `hex`, and on `money_time` for a date.
+//! `arguments_of` carries it. It stands on `clap`, `hex` and `station_limits`, and on `money_time`
+//! for a date.
 #![tactic(auto)]
 
 mod arguments;

@@ -2,16 +2,13 @@
 
 ghost use Rattle.std.specs.Prelude.{◌≡◌, IfSome, Ok};
 ghost use Rattle.hex.specs.Hex.{decode_sized};
-ghost use Rattle.command_line.specs.declared.seal.TheConstants.{SEAL_SIZE};
+ghost use Rattle.station_limits.specs.declared.digest.TheConstants.{DIGEST_SIZE};
 ghost use Rattle.command_line.specs.Arguments.{IsSealAllowed, IsSealedAllowed};
 
-use crate::arguments::CAPACITY_LIMIT;
 use clap::ArgMatches;
 use hex::FromHex;
 use program_options::number_in;
-
-/// How many bytes the digest of a seal has.
-pub const SEAL_SIZE: usize = 32;
+use station_limits::{Digest, HISTORY_LIMIT};
 
 /// What is asked of the seal of a journal.
 #[derive(Clone, Copy, Debug, PartialEq, Eq)]
@@ -28,7 +25,7 @@ pub struct Sealed {
     /// How many touches it was made of.
     pub touches: u32,
     /// The digest of the header and their slots.
-    pub digest: [u8; SEAL_SIZE],
+    pub digest: Digest,
 }
 
 /// The seal that the matches of a command ask for. `None` where a seal is named that is none.
@@ -55,14 +52,14 @@ fn kept_asked(matches: &ArgMatches<'_>) -> Option<Option<Sealed>>
 fn sealed_in(touches: &str, digest: &str) -> Option<Sealed>
     ensures { IfSome result IsSealedAllowed }
 {
-    let touches = number_in(touches, 0, CAPACITY_LIMIT)?;
+    let touches = number_in(touches, 0, HISTORY_LIMIT)?;
     let digest = digest_in(digest)?;
     Some(Sealed { touches, digest })
 }
 
 /// The digest that a text of hexadecimal digits is, in either case.
-fn digest_in(text: &str) -> Option<[u8; SEAL_SIZE]>
-    ensures { IfSome result (λ digest. decode_sized text.now SEAL_SIZE ≡ Ok digest) }
+fn digest_in(text: &str) -> Option<Digest>
+    ensures { IfSome result (λ digest. decode_sized text.now DIGEST_SIZE ≡ Ok digest) }
 {
-    <[u8; SEAL_SIZE] as FromHex>::from_hex(text).ok()
+    <Digest as FromHex>::from_hex(text).ok()
 }

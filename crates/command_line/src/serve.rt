@@ -3,12 +3,11 @@
 ghost use Rattle.std.specs.Prelude.{IfSome};
 ghost use Rattle.command_line.specs.Arguments.{IsServeAllowed};
 
-use crate::arguments::{
-    CAPACITY_LIMIT, CARDS_LIMIT, CONNECTIONS_LIMIT, IDLE_LIMIT, LINES_LIMIT, REPORT_LIMIT,
-};
+use crate::arguments::{CONNECTIONS_LIMIT, IDLE_LIMIT, REPORT_LIMIT};
 use crate::number::number_asked;
 use clap::ArgMatches;
 use program_options::number_given;
+use station_limits::{CARDS_LIMIT, HISTORY_LIMIT, LINES_LIMIT};
 
 /// What a server is asked for.
 #[derive(Debug, PartialEq, Eq, Drop)]
@@ -57,7 +56,7 @@ pub(crate) fn serve_asked<'a>(
     let journal = matches.get_str("journal")?;
     let listen = matches.get_str("listen")?;
     let cards = number_asked(matches, "cards", CARDS_LIMIT)?;
-    let capacity = number_asked(matches, "capacity", CAPACITY_LIMIT)?;
+    let capacity = number_asked(matches, "capacity", HISTORY_LIMIT)?;
     let lines = number_asked(matches, "lines", LINES_LIMIT)?;
     let connections = number_given(matches, "connections", 1, CONNECTIONS_LIMIT)?;
     let idle = number_given(matches, "idle", 1, IDLE_LIMIT)?;

@@ -1,14 +1,14 @@
 //! The statement of a card that the arguments of a command line ask for.
 
 ghost use Rattle.std.specs.Prelude.{◌≡◌, true, IfSome};
+ghost use Rattle.station_limits.specs.declared.limits.TheConstants.{CARDS_LIMIT};
 ghost use Rattle.program_options.specs.Numbers.{IsWithin};
-ghost use Rattle.command_line.specs.declared.arguments.TheConstants.{CARDS_LIMIT};
 ghost use Rattle.command_line.specs.Arguments.{IsStatementAllowed, IsUpTo};
 
-use crate::arguments::CARDS_LIMIT;
 use crate::history::day_asked;
 use crate::number::number_asked;
 use clap::ArgMatches;
+use station_limits::CARDS_LIMIT;
 
 /// The words for the formats of a statement.
 pub(crate) const STATEMENT_FORMATS: &[&str] = &["text", "csv", "json"];

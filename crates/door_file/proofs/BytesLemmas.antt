@@ -1,17 +1,23 @@
--- The first fault of a file's bytes is that of their text, where they are one and are not too many.
-use Rattle.std.proofs.Common.{◌≡◌, ◌≤◌, ℕ, Bool, true, false, List, length, Some, refl}
-use Rattle.std.specs.Str.{is_utf8, IsUtf8}
+-- The first fault of a file's bytes is that of their text, where they are one and are not too many; and
+-- the fault of a text without a tree.
+use Rattle.std.proofs.Common.{◌≡◌, ◌≢◌, ◌≤◌, ℕ, List, length, Some, None, refl, ap}
+use Rattle.std.specs.Str.{IsUtf8}
 use Rattle.std.proofs.lemmas.Bool.{le-ltb}
-use Rattle.std.proofs.lemmas.Str.{is_utf8-from_IsUtf8, IsUtf8-from_is_utf8}
+use Rattle.std.proofs.lemmas.Str.{is_utf8-from_IsUtf8}
 use Rattle.toml.specs.Parse.{parse_document}
+use Rattle.toml_reading.specs.declared.document.TreeFault.{TreeFault}
+use Rattle.toml_reading.specs.declared.document.TreeFault.TheVariants as trees
+use Rattle.toml_reading.proofs.TextLemmas.{no-text}
 use Rattle.door_file.specs.Faults.{fault_of_tree, fault_in}
+use Rattle.door_file.specs.TreeFault.{tree_fault}
 use Rattle.door_file.specs.declared.door.TheConstants.{MOST_BYTES}
-use Rattle.door_file.specs.declared.fault.DoorFault.TheVariants.{NotToml}
+use Rattle.door_file.specs.declared.fault.DoorFault.TheVariants.{Memory, NotToml}
 
--- bytes that are no text are found to be none
-not_true : (b : Bool) → (b ≡ true → ⊥) → b ≡ false
-not_true true other = absurd (other refl)
-not_true false other = refl
+-- a text without a tree
+pub in_text : (text : List ℕ) (fault : TreeFault) → (fault ≡ trees.NotToml → parse_document text ≡ None)
+    → tree_fault fault ≢ Memory → fault_of_tree (parse_document text) ≡ Some (tree_fault fault)
+in_text text trees.Memory none other = absurd (other refl)
+in_text text trees.NotToml none other = ap fault_of_tree (none refl)
 
 -- the fault in a text is the text's own
 pub fault_in-text : (bytes : List ℕ) → length bytes ≤ MOST_BYTES → IsUtf8 bytes
@@ -21,6 +27,4 @@ fault_in-text bytes size is = rw (le-ltb MOST_BYTES (length bytes) size, is_utf8
 -- bytes that are no text are no TOML
 pub fault_in-other : (bytes : List ℕ) → length bytes ≤ MOST_BYTES → (IsUtf8 bytes → ⊥)
     → fault_in bytes ≡ Some NotToml
-fault_in-other bytes size other =
-    let none : is_utf8 bytes ≡ false = not_true (is_utf8 bytes) (λ is. other (IsUtf8-from_is_utf8 bytes is)) in
-    rw (le-ltb MOST_BYTES (length bytes) size, none) refl
+fault_in-other bytes size other = rw (le-ltb MOST_BYTES (length bytes) size, no-text bytes other) refl

@@ -2,7 +2,7 @@
 use Rattle.std.proofs.Common.{◌≡◌, ◌≢◌, ℕ, zero, suc, ◌+◌, ◌≤◌, ◌++◌, Bool, true, false, if◌then◌else◌}
 use Rattle.std.proofs.Common.{List, [], ◌∷◌, length, map, get_or, Option, Some, None, nat_le, nat_lt}
 use Rattle.std.proofs.Common.{refl, ap, sym, ◌∙◌, subst, arith, inl, inr}
-use Rattle.std.specs.List.{All, AllZip, AllPairs, list_any}
+use Rattle.std.specs.List.{All, AllZip, AllPairs}
 use Rattle.std.specs.Str.{bytes_eq}
 use Rattle.std.proofs.lemmas.Bool.{cases_Bool, leb-true, le-leb, ltb-false, le-ltb}
 use Rattle.std.proofs.lemmas.List.{length-map}
@@ -11,10 +11,13 @@ use Rattle.std.proofs.lemmas.List.Kept.{AllPairs-cons}
 use Rattle.std.proofs.lemmas.Slice.Eq.{bytes_eq-Decides}
 use Rattle.toml.specs.Data.{Data, array, table, Members}
 use Rattle.toml.specs.Parse.{parse_document}
-use Rattle.door_file.specs.First.{first}
+use Rattle.toml_reading.specs.First.{first}
+use Rattle.toml_reading.specs.Tree.{elements_of, items_in}
+use Rattle.toml_reading.proofs.FirstLemmas.{first_none, last_none, both-none, cons-none, some-none}
+use Rattle.toml_reading.proofs.TestLemmas.{and_left, and_right, and_both, any-push, push-any}
 use Rattle.door_file.specs.Keys.{file_keys}
 use Rattle.door_file.specs.Rule.{Entry}
-use Rattle.door_file.specs.Tree.{value_at, elements_of, items_in, name_in}
+use Rattle.door_file.specs.Tree.{value_at, name_in}
 use Rattle.door_file.specs.Faults.{is_taken, problem_of, key_fault, keys_faults}
 use Rattle.door_file.specs.Faults.{table_faults, rule_faults, rules_faults, faults, fault_of_tree, first_fault}
 use Rattle.door_file.specs.Content.{entry_in, entries_in}
@@ -25,10 +28,7 @@ use Rattle.door_file.specs.declared.fault.DoorFault.TheVariants.{TooLong}
 use Rattle.door_file.specs.declared.key.Key.TheVariants as key
 use Rattle.door_file.specs.declared.key.Shape.TheVariants.{Rules}
 use Rattle.door_file.specs.declared.key.TheConstants.{MOST_RULES}
-use Rattle.door_file.proofs.FirstLemmas.{first_none, last_none}
-use Rattle.door_file.proofs.NoneLemmas.{both-none, cons-none, some-none}
-use Rattle.door_file.proofs.NumberLemmas.{and_left, and_right, and_both, right, right-none}
-use Rattle.door_file.proofs.KindsLemmas.{either-false, neither}
+use Rattle.door_file.proofs.NumberLemmas.{right, right-none}
 use Rattle.door_file.proofs.RuleLemmas.{only-known, known-only, key-none, fault-none}
 use Rattle.door_file.proofs.RuleLemmas.{rule-named, rule-says, rule-name, rule-none, rule-same}
 
@@ -39,21 +39,6 @@ Differ earlier later = later.name ≢ earlier.name
 
 abbrev IsNew : List Data → Entry → Type 0
 IsNew earlier entry = is_taken entry.name earlier ≡ false
-
-any-push : {X : Type 0} (test : X → Bool) (xs : List X) (x : X) → list_any test (xs ++ x ∷ []) ≡ false
-    → (list_any test xs ≡ false) × (test x ≡ false)
-any-push test [] x e = (refl, (either-false (test x) false e).0)
-any-push test (y ∷ xs) x e =
-    let p = either-false (test y) (list_any test (xs ++ x ∷ [])) e in
-    let q = any-push test xs x p.1 in
-    (neither (test y) (list_any test xs) p.0 q.0, q.1)
-
-push-any : {X : Type 0} (test : X → Bool) (xs : List X) (x : X) → list_any test xs ≡ false → test x ≡ false
-    → list_any test (xs ++ x ∷ []) ≡ false
-push-any test [] x e f = neither (test x) false f refl
-push-any test (y ∷ xs) x e f =
-    let p = either-false (test y) (list_any test xs) e in
-    neither (test y) (list_any test (xs ++ x ∷ [])) p.0 (push-any test xs x p.1 f)
 
 unlike : (a b : List ℕ) → bytes_eq a b ≡ false → a ≢ b
 unlike a b e same = let t = (bytes_eq-Decides a b).1 same in cc

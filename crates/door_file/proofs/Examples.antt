@@ -4,7 +4,7 @@ use Rattle.std.proofs.Common.{◌≡◌, ℕ, pos, negsuc, true, false, List, []
 use Rattle.std.specs.Prelude.{codes}
 use Rattle.toml.specs.Data.{Data, string, integer, array, table}
 use Rattle.toml.specs.Data.{Items, no_items, item, Members, no_members, member}
-use Rattle.door_file.specs.First.{first}
+use Rattle.toml_reading.specs.First.{first}
 use Rattle.door_file.specs.Keys.{rule_keys, file_keys, all_kinds}
 use Rattle.door_file.specs.Rule.{Entry, others, rule_for}
 use Rattle.door_file.specs.Content.{entry_in}
@@ -16,7 +16,7 @@ use Rattle.door_file.specs.declared.fault.Problem.{Problem}
 use Rattle.door_file.specs.declared.fault.Problem.TheVariants.{Missing, WrongType, Range, Twice}
 use Rattle.door_file.specs.declared.key.Key.{Key}
 use Rattle.door_file.specs.declared.key.Key.TheVariants as key
-use Rattle.door_file.specs.declared.key.TheConstants.{MOST_RULES, LONGEST_NAME, HIGHEST_GATE, MOST_AHEAD}
+use Rattle.door_file.specs.declared.key.TheConstants.{MOST_RULES, HIGHEST_GATE, MOST_AHEAD}
 use Rattle.door_file.specs.declared.key.TheConstants.{MOST_RATE, MOST_BURST, MOST_RESERVED, MOST_CONNECTIONS}
 use Rattle.door_file.specs.declared.key.TheConstants.{RULE_KEYS, FILE_KEYS}
 use Rattle.door_file.specs.declared.kind.TheConstants.{KINDS}
@@ -28,9 +28,6 @@ most_bytes = refl
 
 most_rules : MOST_RULES ≡ 1_000
 most_rules = refl
-
-longest_name : LONGEST_NAME ≡ 64
-longest_name = refl
 
 highest_gate : HIGHEST_GATE ≡ 65_535
 highest_gate = refl

@@ -7,13 +7,16 @@ use Rattle.std.proofs.lemmas.Bool.{leb-true, le-leb, ltb-true, lt-ltb}
 use Rattle.std.proofs.lemmas.List.{length-map}
 use Rattle.toml.specs.Data.{Data, integer, array, no_items, item}
 use Rattle.gate_door.specs.declared.rule.GateRange.{GateRange}
-use Rattle.door_file.specs.Tree.{elements_of, items_in, whole_of, gate_in, one_gate, two_gates, range_in}
+use Rattle.toml_reading.specs.Tree.{elements_of, items_in}
+use Rattle.toml_reading.specs.Range.{whole_of}
+use Rattle.toml_reading.proofs.TestLemmas.{and_left, and_right, and_both}
+use Rattle.door_file.specs.Tree.{gate_in, one_gate, two_gates, range_in}
 use Rattle.door_file.specs.Faults.{has_enough, is_gate, problem_of}
 use Rattle.door_file.specs.Content.{ranges_of, no_gate}
 use Rattle.door_file.specs.Meaning.{SaysRange, SaysGates}
 use Rattle.door_file.specs.declared.key.Shape.TheVariants.{Gates}
 use Rattle.door_file.specs.declared.key.TheConstants.{HIGHEST_GATE}
-use Rattle.door_file.proofs.NumberLemmas.{and_left, and_right, and_both, if_some, is_some-value, right, right-none}
+use Rattle.door_file.proofs.NumberLemmas.{if_some, is_some-value, right, right-none}
 use Rattle.door_file.proofs.NumberLemmas.{absent, whole-from, from-whole}
 
 -- ---- one range

@@ -1,5 +1,5 @@
 -- The kinds and the name of a rule, as the checks and the reader see them, beside what the keys say.
-use Rattle.std.proofs.Common.{◌≡◌, ℕ, ◌≤◌, Bool, true, false, ◌||◌, is_some, nat_lt, nat_le}
+use Rattle.std.proofs.Common.{◌≡◌, ℕ, ◌≤◌, Bool, true, false, is_some, nat_lt, nat_le}
 use Rattle.std.proofs.Common.{List, [], ◌∷◌, length, Option, Some, None, refl, ap, ◌∙◌, arith, inl, inr}
 use Rattle.std.specs.Prelude.{count_by}
 use Rattle.std.specs.List.{list_all, list_any, All}
@@ -8,25 +8,19 @@ use Rattle.std.proofs.lemmas.Bool.{cases_Bool, leb-true, le-leb, ltb-false, ltb-
 use Rattle.std.proofs.lemmas.List.Elements.{All-nil, All-cons, All-head, All-tail}
 use Rattle.std.proofs.lemmas.Slice.Eq.{bytes_eq-Decides}
 use Rattle.toml.specs.Data.{Data, string, array, as_str}
+use Rattle.station_limits.specs.declared.limits.TheConstants.{CERTIFICATE_NAME_LIMIT}
 use Rattle.gate_door.specs.declared.rule.Kinds.{Kinds as KindsValue}
+use Rattle.toml_reading.specs.Tree.{elements_of, items_in, text_in}
+use Rattle.toml_reading.proofs.TestLemmas.{and_left, and_right, and_both, either-false, neither}
 use Rattle.door_file.specs.Keys.{word_of, all_kinds}
-use Rattle.door_file.specs.Tree.{elements_of, items_in, text_in, is_kind}
+use Rattle.door_file.specs.Tree.{is_kind}
 use Rattle.door_file.specs.Faults.{has_enough, is_known, has_twice, is_taken, problem_of}
 use Rattle.door_file.specs.Content.{kinds_of}
 use Rattle.door_file.specs.Meaning.{SaysKinds}
 use Rattle.door_file.specs.declared.key.Shape.TheVariants.{Kinds, Name}
-use Rattle.door_file.specs.declared.key.TheConstants.{LONGEST_NAME}
 use Rattle.door_file.specs.declared.kind.Kind.{Kind}
 use Rattle.door_file.specs.declared.kind.Kind.TheVariants as kind
-use Rattle.door_file.proofs.NumberLemmas.{and_left, and_right, and_both, right, right-none}
-
-pub either-false : (a b : Bool) → a || b ≡ false → (a ≡ false) × (b ≡ false)
-either-false true b e = cc
-either-false false b e = (refl, e)
-
-pub neither : (a b : Bool) → a ≡ false → b ≡ false → a || b ≡ false
-neither true b e f = cc
-neither false b e f = f
+use Rattle.door_file.proofs.NumberLemmas.{right, right-none}
 
 -- ---- tests of each item
 
@@ -136,7 +130,7 @@ kinds-same (Some d) kinds says = absurd says
 pub record IsNamed (earlier : List Data) (v : Option Data) (name : List ℕ) : Type 0 where
   pub value : v ≡ Some (string name)
   pub least : 1 ≤ length name
-  pub most : length name ≤ LONGEST_NAME
+  pub most : length name ≤ CERTIFICATE_NAME_LIMIT
   pub new : is_taken name earlier ≡ false
 
 pub name-right : (earlier : List Data) (v : Option Data) → problem_of Name true earlier v ≡ None
@@ -147,7 +141,7 @@ name-right earlier (Some (string s)) none =
     record {
       value = refl;
       least = leb-true 1 (length s) (and_left _ _ r.range_is);
-      most = leb-true (length s) LONGEST_NAME (and_right (nat_le 1 (length s)) _ r.range_is);
+      most = leb-true (length s) CERTIFICATE_NAME_LIMIT (and_right (nat_le 1 (length s)) _ r.range_is);
       new = r.new_is;
     }
 name-right earlier (Some d) none = cc
@@ -158,6 +152,7 @@ right-name earlier v name named =
     ap (problem_of Name true earlier) named.value
     ∙ right-none Name true earlier (string name) (record {
       type_is = refl;
-      range_is = and_both _ _ (le-leb 1 (length name) named.least) (le-leb (length name) LONGEST_NAME named.most);
+      range_is = and_both _ _ (le-leb 1 (length name) named.least)
+          (le-leb (length name) CERTIFICATE_NAME_LIMIT named.most);
       new_is = named.new;
     })

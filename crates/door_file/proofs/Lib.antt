@@ -1,6 +1,4 @@
 pub mod TreeLemmas
-pub mod FirstLemmas
-pub mod NoneLemmas
 pub mod PlaceLemmas
 pub mod RulesLemmas
 pub mod UnknownLemmas

@@ -3,26 +3,14 @@ use Rattle.std.proofs.Common.{◌≡◌, ℕ, ◌≤◌, ℤ, pos, negsuc, Bool,
 use Rattle.std.proofs.Common.{List, Option, Some, None, nat_le, refl, ap, sym, ◌∙◌, arith}
 use Rattle.std.proofs.lemmas.Bool.{leb-true, le-leb}
 use Rattle.toml.specs.Data.{Data, integer, as_integer}
-use Rattle.door_file.specs.Tree.{whole_of, whole_in}
+use Rattle.toml_reading.specs.Range.{whole_of, whole_in}
+use Rattle.toml_reading.proofs.TestLemmas.{and_left, and_right}
 use Rattle.door_file.specs.Faults.{has_type, in_range, is_repeat, problem_of}
 use Rattle.door_file.specs.Content.{number_of}
 use Rattle.door_file.specs.Meaning.{SaysNumber}
 use Rattle.door_file.specs.declared.fault.Problem.TheVariants.{WrongType, Range, Twice}
 use Rattle.door_file.specs.declared.key.Shape.{Shape}
 use Rattle.door_file.specs.declared.key.Shape.TheVariants.{Whole}
-
--- where two tests hold, each holds
-pub and_left : (a b : Bool) → a && b ≡ true → a ≡ true
-and_left true b e = refl
-and_left false b e = cc
-
-pub and_right : (a b : Bool) → a && b ≡ true → b ≡ true
-and_right true b e = e
-and_right false b e = cc
-
-pub and_both : (a b : Bool) → a ≡ true → b ≡ true → a && b ≡ true
-and_both true b e f = f
-and_both false b e f = cc
 
 -- a value with no problem is of its type, in its range and no repeat
 pub record IsRight (shape : Shape) (needed : Bool) (earlier : List Data) (d : Data) : Type 0 where

@@ -7,10 +7,12 @@ use Rattle.toml.specs.Data.{Data, table, Members}
 use Rattle.gate_door.specs.declared.rule.GateRange.{GateRange}
 use Rattle.gate_door.specs.declared.rule.Kinds.{Kinds}
 use Rattle.gate_door.specs.declared.rule.Rate.{Rate}
-use Rattle.door_file.specs.First.{first}
+use Rattle.toml_reading.specs.First.{first}
+use Rattle.toml_reading.specs.Tree.{text_in}
+use Rattle.toml_reading.proofs.FirstLemmas.{first_none, last_none, both-none, cons-none, filter-all}
 use Rattle.door_file.specs.Keys.{rule_keys}
 use Rattle.door_file.specs.Rule.{Entry}
-use Rattle.door_file.specs.Tree.{value_at, names_of, items_at, text_in}
+use Rattle.door_file.specs.Tree.{value_at, names_of, items_at}
 use Rattle.door_file.specs.Faults.{has_others, is_taken, is_key, problem_of, problem_at, key_fault}
 use Rattle.door_file.specs.Faults.{keys_faults, unknown_faults, table_faults}
 use Rattle.door_file.specs.Content.{number_of, number_at, rate_of, entry_in}
@@ -23,8 +25,6 @@ use Rattle.door_file.specs.declared.key.Key.TheVariants as key
 use Rattle.door_file.specs.declared.key.Shape.TheVariants.{Whole}
 use Rattle.door_file.specs.declared.key.TheConstants.{MOST_AHEAD, MOST_RATE, MOST_BURST}
 use Rattle.door_file.specs.declared.key.TheConstants.{MOST_RESERVED, MOST_CONNECTIONS}
-use Rattle.door_file.proofs.FirstLemmas.{first_none, last_none}
-use Rattle.door_file.proofs.NoneLemmas.{both-none, cons-none, filter-all}
 use Rattle.door_file.proofs.NumberLemmas.{number-says, says-number, number-none}
 use Rattle.door_file.proofs.GatesLemmas.{gates-right, gates-enough, right-gates, gates-same}
 use Rattle.door_file.proofs.KindsLemmas.{kinds-right, right-kinds, kinds-same, IsNamed, name-right, right-name}

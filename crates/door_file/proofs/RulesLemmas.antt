@@ -4,10 +4,10 @@ use Rattle.std.proofs.Common.{Some, None, ap, sym, ◌∙◌}
 use Rattle.std.proofs.lemmas.List.{drop_more, take_more, map-append}
 use Rattle.toml.specs.View.{view}
 use Rattle.toml.specs.declared.value.Value.{Value}
-use Rattle.door_file.specs.First.{first}
+use Rattle.toml_reading.specs.First.{first}
+use Rattle.toml_reading.proofs.FirstLemmas.{append-none, append-some}
 use Rattle.door_file.specs.Faults.{rule_faults, rules_faults}
 use Rattle.door_file.specs.declared.fault.DoorFault.{DoorFault}
-use Rattle.door_file.proofs.FirstLemmas.{append-none, append-some}
 
 -- the tree's rules before the next one
 before_next : (rules : List Value) (i : ℕ) (v : Value) → i < length rules → v ≡ get_or rules i v

@@ -1,43 +1,22 @@
--- The items of a list of a tree, beside the values that the code holds.
-use Rattle.std.proofs.Common.{◌≡◌, ◌≢◌, ℕ, None, Some, Bool, List, [], ◌∷◌, map, length, refl, ap, ◌∙◌}
+-- The items of a list of a tree, by what a key of a door's file may hold.
+use Rattle.std.proofs.Common.{◌≡◌, ◌≢◌, ℕ, None, Bool, List, [], ◌∷◌, map, length, refl, ap, ◌∙◌}
 use Rattle.std.proofs.Common.{Vec, Global, is_some, nat_lt, cond, sym, ◌+◌, ◌&&◌}
 use Rattle.std.specs.Prelude.{count_by}
 use Rattle.std.proofs.lemmas.List.{length-map}
 use Rattle.std.proofs.lemmas.List.Sums.{sum_by-cons}
 use Rattle.std.specs.List.{list_all, list_any}
-use Rattle.toml.specs.Data.{Data, array, as_integer, as_str}
-use Rattle.toml.proofs.Views.{view-Array}
-use Rattle.toml.specs.View.{view, items_of, items_view}
+use Rattle.toml.specs.Data.{Data, as_integer, as_str}
+use Rattle.toml.specs.View.{view}
 use Rattle.toml.specs.declared.value.Value.{Value, Array}
+use Rattle.toml_reading.specs.Range.{are_whole, is_count}
+use Rattle.toml_reading.proofs.TestLemmas.{list_all-map, list_any-map}
+use Rattle.toml_reading.proofs.TreeLemmas.{elements_of-items_view, length-elements_of, array_of}
 use Rattle.door_file.specs.Keys.{all_kinds}
-use Rattle.door_file.specs.Tree.{elements_of, items_in, ends_in, range_in, is_kind}
-use Rattle.door_file.specs.Faults.{has_type, in_range, is_repeat, is_gate, are_whole, is_count, has_enough}
+use Rattle.door_file.specs.Tree.{ends_in, range_in, is_kind}
+use Rattle.door_file.specs.Faults.{has_type, in_range, is_repeat, is_gate, has_enough}
 use Rattle.door_file.specs.Faults.{is_known, has_twice}
 use Rattle.door_file.specs.declared.key.Shape.TheVariants.{Rules, Gates, Kinds}
 use Rattle.door_file.specs.declared.key.TheConstants.{MOST_RULES}
-
--- the items of a list are those that it was made of
-pub elements_of-items_of : (ds : List Data) → elements_of (items_of ds) ≡ ds
-elements_of-items_of [] = refl
-elements_of-items_of (d ∷ ds) = ap (λ rest. d ∷ rest) (elements_of-items_of ds)
-
-pub elements_of-items_view : (vs : List Value) → elements_of (items_view vs) ≡ map view vs
-elements_of-items_view vs = elements_of-items_of (map view vs)
-
--- a list has as many items as the code has values
-pub length-elements_of : (vs : List Value) → length (elements_of (items_view vs)) ≡ length vs
-length-elements_of vs = ap length (elements_of-items_view vs) ∙ length-map vs view
-
--- a test of every item is one of every value
-pub list_all-map : {X Y : Type 0} (p : Y → Bool) (f : X → Y) (xs : List X) → list_all p (map f xs)
-    ≡ list_all (λ x. p (f x)) xs
-list_all-map p f [] = refl
-list_all-map p f (x ∷ xs) = rw (list_all-map p f xs) refl
-
-pub list_any-map : {X Y : Type 0} (p : Y → Bool) (f : X → Y) (xs : List X) → list_any p (map f xs)
-    ≡ list_any (λ x. p (f x)) xs
-list_any-map p f [] = refl
-list_any-map p f (x ∷ xs) = rw (list_any-map p f xs) refl
 
 -- a list that hasn't two items is no range
 pub ends_in-other : (ds : List Data) → length ds ≢ 2 → ends_in ds ≡ None
@@ -47,14 +26,6 @@ ends_in-other (a ∷ b ∷ []) two = absurd (two refl)
 ends_in-other (a ∷ b ∷ c ∷ ds) two = refl
 
 pub ruleset tree_facts = (length-elements_of, elements_of-items_view, list_all-map, list_any-map, ends_in-other)
-
--- a list of the code, as the tree has it
-pub array_of : (v : Value) (rows : Vec Value Global) → v ≡ Array rows → view v ≡ array (items_view rows.items)
-array_of v rows is = ap view is ∙ view-Array rows
-
-pub items_in-array : (v : Value) (rows : Vec Value Global) → v ≡ Array rows → items_in (Some (view v))
-    ≡ map view rows.items
-items_in-array v rows is = ap (λ d. items_in (Some d)) (array_of v rows is) ∙ elements_of-items_view rows.items
 
 -- the type of a list by its items
 pub gates-array : (v : Value) (rows : Vec Value Global) → v ≡ Array rows

@@ -5,7 +5,7 @@ use Rattle.std.specs.List.{filter, find}
 use Rattle.std.specs.Map.{keys_of}
 use Rattle.toml.specs.View.{members_view}
 use Rattle.toml.specs.declared.value.Value.{Value}
-use Rattle.door_file.specs.First.{first}
+use Rattle.toml_reading.specs.First.{first}
 use Rattle.door_file.specs.Tree.{names_of}
 use Rattle.door_file.specs.Faults.{is_key, unknown_faults}
 use Rattle.door_file.specs.declared.fault.DoorFault.TheVariants.{UnknownKey}

@@ -6,9 +6,11 @@ use Rattle.gate_door.specs.Rule.{Terms}
 use Rattle.gate_door.specs.declared.rule.GateRange.{GateRange}
 use Rattle.gate_door.specs.declared.rule.Kinds.{Kinds}
 use Rattle.gate_door.specs.declared.rule.Rate.{Rate}
+use Rattle.toml_reading.specs.Tree.{members_in}
+use Rattle.toml_reading.specs.Range.{whole_in}
 use Rattle.door_file.specs.Keys.{shape_of}
 use Rattle.door_file.specs.Rule.{Entry}
-use Rattle.door_file.specs.Tree.{value_at, items_at, members_in, name_in, whole_in, range_in}
+use Rattle.door_file.specs.Tree.{value_at, items_at, name_in, range_in}
 use Rattle.door_file.specs.Tree.{is_kind}
 use Rattle.door_file.specs.declared.key.Key.{Key}
 use Rattle.door_file.specs.declared.key.Key.TheVariants as key

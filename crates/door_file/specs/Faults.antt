@@ -1,6 +1,6 @@
 -- The faults of a door's file, in the order of the file: its own keys, then rule after rule, and of
 -- each the keys in their order (the causes and their order are this project's choice).
-use Rattle.std.specs.Prelude.{ℕ, ◌+◌, Bool, true, false, not, ◌&&◌, ◌||◌, nat_le, nat_lt, count_by}
+use Rattle.std.specs.Prelude.{ℕ, ◌+◌, Bool, true, false, not, ◌&&◌, ◌||◌, nat_lt, count_by}
 use Rattle.std.specs.Prelude.{is_some, List, [], ◌∷◌, ◌++◌, map, filter, length}
 use Rattle.std.specs.Prelude.{Option, Some, None, option_map, if◌then◌else◌}
 use Rattle.std.specs.List.{filter_map, list_any, list_all}
@@ -8,10 +8,12 @@ use Rattle.std.specs.Str.{bytes_eq, is_utf8}
 use Rattle.toml.specs.Data.{Data, string, integer, array, table, Members}
 use Rattle.toml.specs.Data.{as_integer, as_str, as_array}
 use Rattle.toml.specs.Parse.{parse_document}
-use Rattle.door_file.specs.First.{first}
+use Rattle.station_limits.specs.declared.limits.TheConstants.{CERTIFICATE_NAME_LIMIT}
+use Rattle.toml_reading.specs.First.{first}
+use Rattle.toml_reading.specs.Tree.{elements_of}
+use Rattle.toml_reading.specs.Range.{whole_in, are_whole, is_count}
 use Rattle.door_file.specs.Keys.{text_of, shape_of, rule_keys, file_keys, all_kinds}
-use Rattle.door_file.specs.Tree.{value_at, names_of, elements_of, items_at, whole_in, name_in}
-use Rattle.door_file.specs.Tree.{range_in, is_kind}
+use Rattle.door_file.specs.Tree.{value_at, names_of, items_at, name_in, range_in, is_kind}
 use Rattle.door_file.specs.declared.door.TheConstants.{MOST_BYTES}
 use Rattle.door_file.specs.declared.fault.DoorFault.{DoorFault}
 use Rattle.door_file.specs.declared.fault.DoorFault.TheVariants.{TooLong, NotToml, At, UnknownKey}
@@ -21,12 +23,8 @@ use Rattle.door_file.specs.declared.key.Key.{Key}
 use Rattle.door_file.specs.declared.key.Key.TheVariants as key
 use Rattle.door_file.specs.declared.key.Shape.{Shape}
 use Rattle.door_file.specs.declared.key.Shape.TheVariants.{Rules, Name, Gates, Kinds, Whole}
-use Rattle.door_file.specs.declared.key.TheConstants.{MOST_RULES, LONGEST_NAME}
+use Rattle.door_file.specs.declared.key.TheConstants.{MOST_RULES}
 use Rattle.door_file.specs.declared.kind.Kind.TheVariants as kind
-
--- each value of a list is a whole number
-abbrev pub are_whole : List Data → Bool
-are_whole ds = list_all (λ d. is_some (as_integer d)) ds
 
 -- the value is a whole number or a list of such
 abbrev pub is_gate : Data → Bool
@@ -44,10 +42,6 @@ has_type Kinds (array ds) = list_all (λ d. is_some (as_str d)) (elements_of ds)
 has_type Kinds d = false
 has_type (Whole low high) d = is_some (as_integer d)
 
--- the count is from the least to the most
-abbrev pub is_count : ℕ → ℕ → ℕ → Bool
-is_count least most count = nat_le least count && nat_le count most
-
 -- a list that is needed has an item
 abbrev pub has_enough : Bool → ℕ → Bool
 has_enough needed count = not needed || nat_lt 0 count
@@ -60,7 +54,7 @@ is_known d = list_any (λ k. is_kind k d) all_kinds
 abbrev pub in_range : Shape → Bool → Data → Bool
 in_range Rules needed (array ds) = is_count 1 MOST_RULES (length (elements_of ds))
 in_range Rules needed d = true
-in_range Name needed (string s) = is_count 1 LONGEST_NAME (length s)
+in_range Name needed (string s) = is_count 1 CERTIFICATE_NAME_LIMIT (length s)
 in_range Name needed d = true
 in_range Gates needed (array ds) =
     has_enough needed (length (elements_of ds))

@@ -1,9 +1,9 @@
 pub mod Keys
 pub mod Rule
 pub mod Tree
-pub mod First
 pub mod Faults
 pub mod Content
 pub mod Door
 pub mod Texts
+pub mod TreeFault
 pub mod Meaning

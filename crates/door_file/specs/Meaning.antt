@@ -5,17 +5,19 @@ use Rattle.std.specs.Prelude.{Option, Some, None, unwrap_or, count_by}
 use Rattle.std.specs.List.{All, AllZip, AllPairs}
 use Rattle.toml.specs.Data.{Data, string, integer, array, table, no_items, item, Members}
 use Rattle.toml.specs.Parse.{parse_document}
+use Rattle.station_limits.specs.declared.limits.TheConstants.{CERTIFICATE_NAME_LIMIT}
 use Rattle.gate_door.specs.declared.rule.GateRange.{GateRange}
 use Rattle.gate_door.specs.declared.rule.Kinds.{Kinds}
 use Rattle.gate_door.specs.declared.rule.Rate.{Rate}
+use Rattle.toml_reading.specs.Tree.{elements_of}
 use Rattle.door_file.specs.Keys.{rule_keys, file_keys, word_of}
 use Rattle.door_file.specs.Rule.{Entry}
-use Rattle.door_file.specs.Tree.{value_at, names_of, elements_of, items_at, is_kind}
+use Rattle.door_file.specs.Tree.{value_at, names_of, items_at, is_kind}
 use Rattle.door_file.specs.Faults.{is_key, has_others}
 use Rattle.door_file.specs.Content.{kinds_of, rate_of}
 use Rattle.door_file.specs.declared.door.TheConstants.{MOST_BYTES}
 use Rattle.door_file.specs.declared.key.Key.TheVariants as key
-use Rattle.door_file.specs.declared.key.TheConstants.{MOST_RULES, LONGEST_NAME, HIGHEST_GATE}
+use Rattle.door_file.specs.declared.key.TheConstants.{MOST_RULES, HIGHEST_GATE}
 use Rattle.door_file.specs.declared.key.TheConstants.{MOST_AHEAD, MOST_RATE, MOST_BURST}
 use Rattle.door_file.specs.declared.key.TheConstants.{MOST_RESERVED, MOST_CONNECTIONS}
 use Rattle.door_file.specs.declared.kind.Kind.{Kind}
@@ -73,7 +75,7 @@ SaysReserved v reserved =
 pub record SaysRule (ms : Members) (entry : Entry) : Type 0 where
   pub name : value_at key.Name ms ≡ Some (string entry.name)
   pub name_least : 1 ≤ length entry.name
-  pub name_most : length entry.name ≤ LONGEST_NAME
+  pub name_most : length entry.name ≤ CERTIFICATE_NAME_LIMIT
   pub gates : SaysGates (value_at key.Gates ms) entry.terms.gates
   -- a rule that allows more than enquiries has gates
   pub some_gates : has_others (items_at key.Kinds ms) ≡ true → 1 ≤ length entry.terms.gates

@@ -1,9 +1,10 @@
 -- What the keys of a door's file hold, in the tree that a TOML text stands for.
-use Rattle.std.specs.Prelude.{ℕ, ℤ, pos, Bool, false, ◌&&◌, nat_le, int_le, unsigned_abs}
+use Rattle.std.specs.Prelude.{ℕ, Bool, false, nat_le}
 use Rattle.std.specs.Prelude.{List, [], ◌∷◌, Option, Some, None, if◌then◌else◌}
 use Rattle.std.specs.Str.{bytes_eq}
-use Rattle.toml.specs.Data.{Data, string, array, table, Items, no_items, item}
-use Rattle.toml.specs.Data.{Members, no_members, member, get_member, as_integer}
+use Rattle.toml.specs.Data.{Data, string, array, Members, no_members, member, get_member}
+use Rattle.toml_reading.specs.Tree.{elements_of, items_in, members_in, text_in}
+use Rattle.toml_reading.specs.Range.{whole_in}
 use Rattle.gate_door.specs.declared.rule.GateRange.{GateRange}
 use Rattle.door_file.specs.Keys.{text_of, word_of}
 use Rattle.door_file.specs.declared.key.Key.{Key}
@@ -20,42 +21,9 @@ abbrev pub names_of : Members → List (List ℕ)
 names_of no_members = []
 names_of (member name d ms) = name ∷ names_of ms
 
--- the items of a list
-abbrev pub elements_of : Items → List Data
-elements_of no_items = []
-elements_of (item d ds) = d ∷ elements_of ds
-
--- the items of a value, none where it is no list
-abbrev pub items_in : Option Data → List Data
-items_in (Some (array ds)) = elements_of ds
-items_in _ = []
-
 -- the items of the list at a key, none where there is no list
 abbrev pub items_at : Key → Members → List Data
 items_at key ms = items_in (value_at key ms)
-
--- the keys of a row, none where it is no table
-abbrev pub members_in : Data → Members
-members_in (table ms) = ms
-members_in _ = no_members
-
--- the number is from the lowest to the highest
-abbrev pub is_whole : ℕ → ℕ → ℤ → Bool
-is_whole low high n = int_le (pos low) n && int_le n (pos high)
-
--- the number, where it is there and from the lowest to the highest
-abbrev pub whole_of : ℕ → ℕ → Option ℤ → Option ℕ
-whole_of low high None = None
-whole_of low high (Some n) = if is_whole low high n then Some (unsigned_abs n) else None
-
--- the whole number that a value is, where it is one from the lowest to the highest
-abbrev pub whole_in : ℕ → ℕ → Data → Option ℕ
-whole_in low high d = whole_of low high (as_integer d)
-
--- the text of a value, empty where it is none
-abbrev pub text_in : Option Data → List ℕ
-text_in (Some (string s)) = s
-text_in _ = []
 
 -- the name of a rule, empty where it has none
 abbrev pub name_in : Data → List ℕ

@@ -1,17 +1,18 @@
 //! Whether the value of a key is of its type, and in its range.
 ghost use Rattle.std.specs.Prelude.{◌≡◌, ◌&&◌, Bool, is_some, length};
 ghost use Rattle.std.specs.List.{list_all};
-ghost use Rattle.toml.specs.Data.{as_integer, as_str};
+ghost use Rattle.toml.specs.Data.{as_str};
 ghost use Rattle.toml.specs.View.{view};
 ghost use Rattle.door_file.specs.Tree.{range_in};
-ghost use Rattle.door_file.specs.Faults.{has_type, in_range, is_count, has_enough, is_gate};
-ghost use Rattle.door_file.specs.Faults.{is_known};
+ghost use Rattle.door_file.specs.Faults.{has_type, in_range, has_enough, is_gate, is_known};
 
 use crate::gates::range_in;
-use crate::key::{LONGEST_NAME, MOST_RULES, Shape};
+use crate::key::{MOST_RULES, Shape};
 use crate::kind::KINDS;
-use crate::tree::{is_kind, whole_in};
+use crate::tree::is_kind;
+use station_limits::CERTIFICATE_NAME_LIMIT;
 use toml::Value;
+use toml_reading::{are_whole, is_count, whole_in};
 
 /// Whether a value is of the type of this shape.
 pub fn has_type(shape: Shape, value: &Value) -> bool
@@ -52,13 +53,6 @@ fn is_gate(value: &Value) -> bool
         Value::Array(items) => are_whole(items.as_slice()),
         _ => false,
     }
-}
-
-/// Whether each item is a whole number.
-fn are_whole(items: &[Value]) -> bool
-    ensures { result ≡ list_all (λ item. is_some (as_integer (view item))) items.now }
-{
-    items.iter().all(|item| item.is_integer())
 }
 
 /// Whether a value is a list of texts.
@@ -106,7 +100,7 @@ fn is_name(value: &Value) -> bool
     ensures { (needed : Bool) → result ≡ in_range Shape.Name needed (view value.now) }
 {
     match value {
-        Value::String(text) => is_count(text.len(), 1, LONGEST_NAME),
+        Value::String(text) => is_count(text.len(), 1, CERTIFICATE_NAME_LIMIT),
         _ => true,
     }
 }
@@ -145,13 +139,6 @@ fn are_enough_kinds(needed: bool, items: &[Value]) -> bool
         && list_all (λ item. is_known (view item)) items.now }
 {
     has_enough(needed, items.len()) && are_kinds(items)
-}
-
-/// Whether the count is from the least to the most.
-fn is_count(count: usize, least: usize, most: usize) -> bool
-    ensures { result ≡ is_count least most count }
-{
-    least <= count && count <= most
 }
 
 /// Whether a list of so many items has one, where it is needed.

@@ -1,8 +1,8 @@
 //! The tree of a file's text, in which each key holds what it must.
-ghost use Rattle.std.specs.Prelude.{◌≡◌, ◌≢◌, None, Some, IfOk, IfErr, if◌then◌else◌};
+ghost use Rattle.std.specs.Prelude.{◌≡◌, ◌≢◌, None, Some, IfOk, IfErr};
 ghost use Rattle.toml.specs.Parse.{parse_document};
 ghost use Rattle.toml.specs.View.{table_view};
-ghost use Rattle.door_file.specs.First.{first};
+ghost use Rattle.toml_reading.specs.First.{first};
 ghost use Rattle.door_file.specs.Faults.{faults, fault_of_tree};
 
 use crate::fault::DoorFault;
@@ -18,32 +18,9 @@ pub fn read(alloc: Global, text: &str) -> Result<Table, DoorFault>
     ensures fault { IfErr result (λ fault. fault ≢ DoorFault.Memory
         → fault_of_tree (parse_document text.now) ≡ Some fault) }
 {
-    let tree = parse(alloc, text)?;
+    let tree = toml_reading::parse(alloc, text)?;
     match problems::check(alloc, &tree) {
         Err(fault) => Err(fault),
         Ok(()) => Ok(tree),
-    }
-}
-
-/// The tree of a text, before its keys are checked.
-fn parse(alloc: Global, text: &str) -> Result<Table, DoorFault>
-    ensures ok { IfOk result (λ tree. parse_document text.now ≡ Some (table_view tree)) }
-    ensures fault { IfErr result (λ fault. fault ≢ DoorFault.Memory
-        → (fault ≡ DoorFault.NotToml) × (parse_document text.now ≡ None)) }
-{
-    match toml::table_from_str(alloc, text) {
-        Ok(tree) => Ok(tree),
-        Err(error) => Err(fault_of(error.is_memory())),
-    }
-}
-
-/// The fault of a text that has no tree.
-fn fault_of(is_memory: bool) -> DoorFault
-    ensures { result ≡ (if is_memory then DoorFault.Memory else DoorFault.NotToml) }
-{
-    if is_memory {
-        DoorFault::Memory
-    } else {
-        DoorFault::NotToml
     }
 }

@@ -1,6 +1,7 @@
 //! Why a text is no door.
 ghost use Rattle.std.specs.Prelude.{◌≡◌, Some};
 ghost use Rattle.door_file.specs.Texts.{printed_place, printed_problem, printed_fault};
+ghost use Rattle.door_file.specs.TreeFault.{tree_fault};
 ghost use Rattle.door_file.specs.declared.fault.DoorFault.TheVariants.{Memory};
 
 use crate::key::Key;
@@ -8,6 +9,7 @@ use crate::name::Text;
 use std::alloc::{AllocError, AllocFailed};
 use std::fmt;
 use thiserror::Error;
+use toml_reading::TreeFault;
 
 /// A key of a rule, or of the file itself.
 #[derive(Clone, Copy, Debug, PartialEq, Eq)]
@@ -102,5 +104,16 @@ impl<T: Drop> From<AllocFailed<T>> for DoorFault {
 
     fn from(_error: AllocFailed<T>) -> DoorFault {
         DoorFault::Memory
+    }
+}
+
+impl From<TreeFault> for DoorFault {
+    ghost from_gives = { λ given fault. fault ≡ tree_fault given };
+
+    fn from(fault: TreeFault) -> DoorFault {
+        match fault {
+            TreeFault::Memory => DoorFault::Memory,
+            TreeFault::NotToml => DoorFault::NotToml,
+        }
     }
 }

@@ -6,10 +6,10 @@ ghost use Rattle.door_file.specs.Content.{ranges_of};
 ghost use Rattle.door_file.specs.declared.key.TheConstants.{HIGHEST_GATE};
 
 use crate::key::HIGHEST_GATE;
-use crate::tree;
 use gate_door::GateRange;
 use std::alloc::{AllocError, Global};
 use toml::Value;
+use toml_reading::whole_in;
 
 /// A range without a gate.
 const NO_GATE: GateRange = GateRange { first: 1, last: 0 };
@@ -29,7 +29,7 @@ fn gate_in(value: &Value) -> Option<u32>
     ensures value { result ≡ gate_in (view value.now) }
     ensures bound { IfSome result (λ gate. gate ≤ HIGHEST_GATE) }
 {
-    tree::whole_in(value, 1, HIGHEST_GATE)
+    whole_in(value, 1, HIGHEST_GATE)
 }
 
 /// The range that the two items of a list are.

@@ -7,9 +7,6 @@ use std::fmt;
 /// The most rules of a door.
 pub const MOST_RULES: usize = 1_000;
 
-/// The most bytes of a rule's name.
-pub const LONGEST_NAME: usize = 64;
-
 /// The highest number of a gate.
 pub const HIGHEST_GATE: u32 = 65_535;
 

@@ -1,7 +1,7 @@
 //! The faults of a tree, in the order of the file.
 ghost use Rattle.std.specs.Prelude.{◌≡◌, ◌≢◌, [], map, option_map, None, Some, IfOk, IfErr};
 ghost use Rattle.toml.specs.View.{view, table_view};
-ghost use Rattle.door_file.specs.First.{first};
+ghost use Rattle.toml_reading.specs.First.{first};
 ghost use Rattle.door_file.specs.Faults.{is_needed, has_others, problem_of, problem_at, key_fault};
 ghost use Rattle.door_file.specs.Faults.{keys_faults, table_faults, rule_faults, rules_faults};
 ghost use Rattle.door_file.specs.Faults.{unknown_faults, faults};
@@ -104,7 +104,7 @@ fn refuse_unknown(alloc: Global, rule: usize, table: &Table, keys: &[Key]) -> Re
 }
 
 /// Refuses a table that has a fault at one of these keys, or another key than these.
-#[tactic(auto, using(crate::proofs::FirstLemmas::firsts))]
+#[tactic(auto, using(toml_reading::proofs::FirstLemmas::firsts))]
 fn check_table(
     alloc: Global,
     rule: usize,

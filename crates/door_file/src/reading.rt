@@ -3,9 +3,10 @@ ghost use Rattle.std.specs.Prelude.{◌≡◌, ◌≤◌, map, IfOk, IfSome};
 ghost use Rattle.std.specs.List.{list_any};
 ghost use Rattle.toml.specs.View.{view};
 ghost use Rattle.gate_door.specs.Rule.{terms_of};
+ghost use Rattle.toml_reading.specs.Tree.{members_in};
 ghost use Rattle.door_file.specs.Rule.{entry_of};
 ghost use Rattle.door_file.specs.Keys.{shape_of};
-ghost use Rattle.door_file.specs.Tree.{is_kind, members_in, items_at};
+ghost use Rattle.door_file.specs.Tree.{is_kind, items_at};
 ghost use Rattle.door_file.specs.Content.{kinds_of, rate_of, terms_in, entry_in, number_at};
 ghost use Rattle.door_file.specs.Content.{highest_of};
 

@@ -5,7 +5,7 @@ use Rattle.std.specs.Prelude.{codes}
 use Rattle.jiff_tz.specs.PosixReader.{read_whole, read_tz, read_abbreviation, read_unquoted, read_offset}
 use Rattle.jiff_tz.specs.PosixReader.{read_up_to_two, read_digit, read_sign, read_minutes}
 use Rattle.toml.specs.Data.{string}
-use Rattle.fare_table.specs.First.{first}
+use Rattle.toml_reading.specs.First.{first}
 use Rattle.fare_table.specs.Content.{single_of, pair_of, cap_of, interchange_of}
 use Rattle.fare_table.specs.Faults.{faults}
 use Rattle.fare_table.specs.declared.key.Key.TheVariants as key

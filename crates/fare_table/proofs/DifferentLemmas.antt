@@ -1,39 +1,17 @@
 -- No row of a list repeats another exactly when each two of them differ.
-use Rattle.std.proofs.Common.{◌≡◌, ℕ, zero, suc, ◌+◌, ◌++◌, Bool, true, false, ◌||◌, if◌then◌else◌, List, [], ◌∷◌}
+use Rattle.std.proofs.Common.{◌≡◌, ℕ, zero, suc, ◌+◌, ◌++◌, Bool, false, if◌then◌else◌, List, [], ◌∷◌}
 use Rattle.std.proofs.Common.{None, refl, arith}
 use Rattle.std.proofs.lemmas.List.Elements.{All-nil, All-cons, All-head, All-tail}
 use Rattle.std.proofs.lemmas.List.Kept.{AllPairs-cons}
 use Rattle.std.specs.List.{All, list_any}
-use Rattle.fare_table.specs.First.{first}
+use Rattle.toml_reading.specs.First.{first}
+use Rattle.toml_reading.proofs.FirstLemmas.{first_none, last_none, both-none}
+use Rattle.toml_reading.proofs.TestLemmas.{any-push, push-any}
 use Rattle.fare_table.specs.Repeats.{repeats}
 use Rattle.fare_table.specs.Valid.{AreDifferent}
 use Rattle.fare_table.specs.declared.key.Key.{Key}
 use Rattle.fare_table.specs.declared.fault.TableFault.TheVariants as fault
-use Rattle.fare_table.proofs.FirstLemmas.{first_none, last_none}
-use Rattle.fare_table.proofs.NoneLemmas.{both-none, empty-unless}
-
-either-false : (a b : Bool) → a || b ≡ false → (a ≡ false) × (b ≡ false)
-either-false true b e = cc
-either-false false b e = (refl, e)
-
-neither : (a b : Bool) → a ≡ false → b ≡ false → a || b ≡ false
-neither true b e f = cc
-neither false b e f = f
-
-any-push : {X : Type 0} (test : X → Bool) (xs : List X) (x : X) → list_any test (xs ++ x ∷ []) ≡ false
-    → (list_any test xs ≡ false) × (test x ≡ false)
-any-push test [] x e = (refl, (either-false (test x) false e).0)
-any-push test (y ∷ xs) x e =
-    let p = either-false (test y) (list_any test (xs ++ x ∷ [])) e in
-    let q = any-push test xs x p.1 in
-    (neither (test y) (list_any test xs) p.0 q.0, q.1)
-
-push-any : {X : Type 0} (test : X → Bool) (xs : List X) (x : X) → list_any test xs ≡ false → test x ≡ false
-    → list_any test (xs ++ x ∷ []) ≡ false
-push-any test [] x e f = neither (test x) false f refl
-push-any test (y ∷ xs) x e f =
-    let p = either-false (test y) (list_any test xs) e in
-    neither (test y) (list_any test (xs ++ x ∷ [])) p.0 (push-any test xs x p.1 f)
+use Rattle.fare_table.proofs.NoneLemmas.{empty-unless}
 
 module _ {X : Type 0} (same : X → X → Bool) (list : Key) where
   abbrev differs : X → X → Type 0

@@ -4,7 +4,8 @@ use Rattle.std.proofs.Common.{Option, Some, None, refl}
 use Rattle.std.proofs.lemmas.List.Elements.{All-nil, All-cons, All-head, All-tail}
 use Rattle.std.specs.List.{All}
 use Rattle.toml.specs.Data.{Data, string, table, Members}
-use Rattle.fare_table.specs.First.{first}
+use Rattle.toml_reading.specs.First.{first}
+use Rattle.toml_reading.proofs.FirstLemmas.{first_none, last_none, both-none, cons-none, some-none}
 use Rattle.fare_table.specs.Keys.{is_required, shape_of, keys_of}
 use Rattle.fare_table.specs.Tree.{value_at}
 use Rattle.fare_table.specs.Causes.{has_type, in_range, in_order, fault_at, key_fault, keys_faults}
@@ -16,8 +17,6 @@ use Rattle.fare_table.specs.declared.fault.Cause.{Cause}
 use Rattle.fare_table.specs.declared.fault.Cause.TheVariants.{Missing, WrongType, Range}
 use Rattle.fare_table.specs.declared.fault.TableFault.TheVariants as fault
 use Rattle.fare_table.proofs.BoolLemmas.{if_none}
-use Rattle.fare_table.proofs.FirstLemmas.{first_none, last_none}
-use Rattle.fare_table.proofs.NoneLemmas.{both-none, cons-none, some-none}
 
 -- ---- keys
 

@@ -8,8 +8,9 @@ use Rattle.jiff.specs.Words.{read_whole}
 use Rattle.toml.specs.Data.{Data, Members}
 use Rattle.toml.specs.Parse.{parse_document}
 use Rattle.money_time.specs.Date.{date_day}
-use Rattle.fare_table.specs.First.{first}
-use Rattle.fare_table.specs.Tree.{value_at, rows_at, text_in}
+use Rattle.toml_reading.specs.First.{first}
+use Rattle.toml_reading.specs.Tree.{text_in}
+use Rattle.fare_table.specs.Tree.{value_at, rows_at}
 use Rattle.fare_table.specs.Causes.{walk_faults}
 use Rattle.fare_table.specs.Repeats.{repeats}
 use Rattle.fare_table.specs.Limits.{is_maximum_low}

@@ -4,7 +4,8 @@ use Rattle.jiff.specs.Placed.{IsPosixZone}
 use Rattle.sha2.specs.Sha256.{sha256}
 use Rattle.toml.specs.Data.{Members}
 use Rattle.toml.specs.Parse.{parse_document}
-use Rattle.fare_table.specs.Tree.{value_at, rows_at, text_in}
+use Rattle.toml_reading.specs.Tree.{text_in}
+use Rattle.fare_table.specs.Tree.{value_at, rows_at}
 use Rattle.fare_table.specs.Content.{rates_of, stations_of, singles_of}
 use Rattle.fare_table.specs.Content.{pairs_of, caps_of, interchanges_of}
 use Rattle.fare_table.specs.Dates.{dates_of}

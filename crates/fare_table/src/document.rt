@@ -1,11 +1,12 @@
 //! The tree of a table's text, in which each key holds what it must.
-ghost use Rattle.std.specs.Prelude.{◌≡◌, ◌≢◌, None, Some, IfOk, IfErr, if◌then◌else◌};
+ghost use Rattle.std.specs.Prelude.{◌≡◌, ◌≢◌, None, Some, IfOk, IfErr};
 ghost use Rattle.std.specs.Prelude.{string_bytes};
 ghost use Rattle.toml.specs.Parse.{parse_document};
 ghost use Rattle.toml.specs.View.{table_view};
-ghost use Rattle.fare_table.specs.First.{first};
+ghost use Rattle.toml_reading.specs.First.{first};
+ghost use Rattle.toml_reading.specs.Tree.{text_in};
 ghost use Rattle.fare_table.specs.Faults.{key_faults, first_fault};
-ghost use Rattle.fare_table.specs.Tree.{text_in, value_at};
+ghost use Rattle.fare_table.specs.Tree.{value_at};
 
 use crate::fault::TableFault;
 use crate::key::Key;
@@ -21,7 +22,7 @@ pub fn read(alloc: Global, text: &str) -> Result<Table, TableFault>
     ensures fault { IfErr result (λ fault. fault ≢ TableFault.Memory
         → first_fault text.now ≡ Some fault) }
 {
-    let tree = parse(alloc, text)?;
+    let tree = toml_reading::parse(alloc, text)?;
     match checks::first_fault(&tree) {
         Some(fault) => Err(fault),
         None => Ok(tree),
@@ -34,27 +35,4 @@ pub fn zone_text(alloc: Global, tree: &Table) -> Result<String, AllocError>
         ≡ text_in (value_at Key.Zone (table_view tree.now))) }
 {
     String::from_str(alloc, tree::text_at(tree, Key::Zone))
-}
-
-/// The tree of a text, before its keys are looked at.
-fn parse(alloc: Global, text: &str) -> Result<Table, TableFault>
-    ensures ok { IfOk result (λ tree. parse_document text.now ≡ Some (table_view tree)) }
-    ensures fault { IfErr result (λ fault. fault ≢ TableFault.Memory
-        → (fault ≡ TableFault.NotToml) × (parse_document text.now ≡ None)) }
-{
-    match toml::table_from_str(alloc, text) {
-        Ok(tree) => Ok(tree),
-        Err(error) => Err(fault_of(error.is_memory())),
-    }
-}
-
-/// The fault of a text that has no tree.
-fn fault_of(is_memory: bool) -> TableFault
-    ensures { result ≡ (if is_memory then TableFault.Memory else TableFault.NotToml) }
-{
-    if is_memory {
-        TableFault::Memory
-    } else {
-        TableFault::NotToml
-    }
 }

@@ -17,7 +17,7 @@ use crate::lists::{self, Lists};
 use crate::rates::Rates;
 use crate::rows::Cap;
 use crate::station::{Station, Zones};
-use crate::{digests, document, times, tree};
+use crate::{document, times, tree};
 use money_time::{Stamp, Window, Zone};
 use sha2::{Digest, Sha256};
 use std::alloc::{AllocError, Global};
@@ -30,7 +30,7 @@ pub struct Fares {
     rates: Rates,
     holidays: Vec<i32>,
     lists: Lists,
-    digest: digests::Digest,
+    digest: station_limits::Digest,
     ghost within_maximum: { is_maximum_low rates lists.singles.items lists.pairs ≡ false },
     ghost within_limits: { IsWithinLimits rates lists } by { Prim.hlevel props },
     ghost has_singles: { HasSingles lists.stations lists.singles.items },
@@ -244,7 +244,7 @@ impl Fares {
     }
 
     /// The SHA-256 digest of the table's text.
-    pub fn digest(&self) -> digests::Digest
+    pub fn digest(&self) -> station_limits::Digest
         ensures { result ≡ digest_of self.now }
     {
         self.digest

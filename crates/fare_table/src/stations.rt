@@ -4,8 +4,8 @@ ghost use Rattle.std.specs.Prelude.{option_copied, option_map, Some, None, IfOk,
 ghost use Rattle.std.specs.List.{find, list_any, list_all};
 ghost use Rattle.toml.specs.View.{view};
 ghost use Rattle.indexmap.specs.IndexMap.{values};
+ghost use Rattle.toml_reading.specs.First.{first};
 ghost use Rattle.fare_table.specs.declared.station.Station.{Station};
-ghost use Rattle.fare_table.specs.First.{first};
 ghost use Rattle.fare_table.specs.Faults.{is_known, unknown};
 ghost use Rattle.fare_table.specs.Index.{IsIndexed};
 ghost use Rattle.fare_table.specs.Repeats.{repeats};
@@ -20,6 +20,7 @@ use indexmap::IndexMap;
 use std::alloc::{AllocError, Global};
 use std::marker::Model;
 use toml::Value;
+use toml_reading::text_in;
 
 /// The stations of a table, by number. Contracts see them in their order.
 pub struct Stations {
@@ -117,7 +118,7 @@ pub fn unknown(stations: &Stations, one: u16, other: u16) -> Option<TableFault>
 fn station_of(alloc: Global, row: &Value) -> Result<Station, AllocError>
     ensures { IfOk result (λ station. station ≡ station_of (view row.now)) }
 {
-    let name = Name::new(alloc, tree::text_in(rows::value(row, Key::StationName)))?;
+    let name = Name::new(alloc, text_in(rows::value(row, Key::StationName)))?;
     Ok(Station {
         id: rows::station(row, Key::StationId),
         name,

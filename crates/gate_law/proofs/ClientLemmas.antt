@@ -1,9 +1,9 @@
 -- What a client shows of its gate, and what a crash may leave of the gate's file.
-use Rattle.std.proofs.Common.{◌≡◌, inl, inr, ℕ, suc, ◌-◌, ◌==◌, Bool, true, false, cond, List, [], ◌∷◌, ◌++◌, length}
-use Rattle.std.proofs.Common.{refl, sym, ap, ◌∙◌, subst, arith, append-nil, Option, Some, None, Result, Ok, Err}
+use Rattle.std.proofs.Common.{◌≡◌, inl, inr, ℕ, ◌==◌, Bool, true, false, cond, List, [], ◌∷◌, ◌++◌}
+use Rattle.std.proofs.Common.{refl, sym, ap, ◌∙◌, subst, append-nil, Option, Some, None, Result, Ok, Err}
 use Rattle.std.proofs.Common.{is_some}
 use Rattle.std.proofs.Common.{IfOk, IfErr, OnOk, OnErr}
-use Rattle.std.specs.Prelude.{slice_get, IsSome}
+use Rattle.std.specs.Prelude.{IsSome}
 use Rattle.oyster_account.specs.declared.touch.Act.{Act}
 use Rattle.oyster_account.specs.declared.touch.Touch.{Touch}
 use Rattle.reply_book.proofs.NameLemmas.{equal}
@@ -11,7 +11,7 @@ use Rattle.tap_disk.specs.declared.disk.Disk.{Ghosts}
 use Rattle.tap_journal.specs.Layout.{Header}
 use Rattle.tap_journal.specs.Image.{WithOrWithout}
 use Rattle.gate_client.specs.declared.client.Client.{Client}
-use Rattle.gate_client.specs.File.{last_of, next_touch}
+use Rattle.gate_client.specs.File.{next_touch}
 use Rattle.gate_client.specs.Client.{HasAsked, gate_of, waits_of, is_stopped}
 use Rattle.gate_client.specs.Client.{disk_of, header_in}
 use Rattle.gate_law.specs.Whole.{Gate, Whole, with_gate, IsWaitingAt}
@@ -62,21 +62,6 @@ pub gone-gate : (number : ℕ) (whole : Whole) (gate : Gate)
 gone-gate number whole gate =
     ap (λ (l : List Touch). record whole { gates = with_gate whole.gates number gate; sent = l })
     (append-nil whole.sent)
-
--- ---- lists of touches
-
--- the last stands behind the others
-pub last-split : (touches : List Touch) (t : Touch) → last_of touches ≡ Some t
-    → (earlier : List Touch) × (touches ≡ earlier ++ t ∷ [])
-last-split [] t is = absurd cc
-last-split (x ∷ []) t is = ([], ap (λ (y : Touch). y ∷ []) (by_some is))
-  where
-    by_some : Some x ≡ Some t → x ≡ t
-    by_some e = cc
-last-split (x ∷ y ∷ ys) t is =
-    let place : length (x ∷ y ∷ ys) - 1 ≡ suc (length (y ∷ ys) - 1) = omega arith in
-    let rest = last-split (y ∷ ys) t (sym (ap (slice_get (x ∷ y ∷ ys)) place) ∙ is) in
-    (x ∷ rest.0, ap (λ (l : List Touch). x ∷ l) rest.1)
 
 -- ---- what a crash may leave
 

@@ -24,7 +24,8 @@ use Rattle.gate_law.proofs.ViewLemmas.{with-own}
 use Rattle.gate_law.specs.Shown.{IsInFile, IsShownBy}
 use Rattle.gate_law.proofs.FileLemmas.{own}
 use Rattle.gate_law.specs.ClientRuns.{gone_in, IsClientRun, told_of, refused_of, IsOnLine}
-use Rattle.gate_law.proofs.ClientLemmas.{with-same, with-twice, gone-none, gone-gate, last-split}
+use Rattle.gate_law.proofs.GateLemmas.{last-split}
+use Rattle.gate_law.proofs.ClientLemmas.{with-same, with-twice, gone-none, gone-gate}
 use Rattle.gate_law.proofs.ClientLemmas.{goes-on, going-shown}
 
 -- a gate that has ended, and keeps what it had

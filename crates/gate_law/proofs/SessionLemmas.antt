@@ -45,11 +45,11 @@ ways ends.Memory e is = inl (record { sent = is.sent; part = is.part })
 -- ---- which requests were sent
 
 -- the first of these requests, and the others
-sent-head : (r : Request) (rs : List Request) (sent : List Touch) → WereSent (r ∷ rs) sent → (touch : Touch)
+pub sent-head : (r : Request) (rs : List Request) (sent : List Touch) → WereSent (r ∷ rs) sent → (touch : Touch)
     → r ≡ requests.Touch touch → Contains sent touch
 sent-head r rs sent were touch is = were touch (contained (r ∷ rs) 0 (requests.Touch touch) (ap Some is))
 
-sent-tail : (r : Request) (rs : List Request) (sent : List Touch) → WereSent (r ∷ rs) sent → WereSent rs sent
+pub sent-tail : (r : Request) (rs : List Request) (sent : List Touch) → WereSent (r ∷ rs) sent → WereSent rs sent
 sent-tail r rs sent were touch there =
     let at = placed rs (requests.Touch touch) there in
     were touch (contained (r ∷ rs) (suc at.0) (requests.Touch touch) at.1)
@@ -178,7 +178,7 @@ pieces-begin bytes line pieces lost begins read = (
 )
 
 -- the requests that were handed over are the first of those written
-handed-first : {C : Type 0} (gives : C → Request → Answer → C → Type 0) (old new : C) (turns : ℕ) (served : Served)
+pub handed-first : {C : Type 0} (gives : C → Request → Answer → C → Type 0) (old new : C) (turns : ℕ) (served : Served)
     (bytes text line : List ℕ) (written : List Request) (is : IsSession gives old new turns served bytes text)
     → IsWritten RequestFits request_frame line written → IsBeginning bytes line
     → AreFirstOf is.exchange.handed written

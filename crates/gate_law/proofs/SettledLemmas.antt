@@ -1,6 +1,6 @@
 -- A touch that is sent, served and heard over a line in memory.
 use Rattle.std.proofs.Common.{◌≡◌, ◌⊎◌, inl, inr, ℕ, zero, suc, true, false, List, [], ◌∷◌, ◌++◌, length, get_or, take}
-use Rattle.std.proofs.Common.{drop, Option, Some, None, IfSome, Result, Ok, Err, IfOk, refl, sym, ap, ◌∙◌, subst}
+use Rattle.std.proofs.Common.{drop, Option, Some, None, IfSome, Result, Ok, Err, refl, sym, ap, ◌∙◌, subst}
 use Rattle.std.proofs.Common.{append-nil, append_assoc, is_some}
 use Rattle.std.specs.Prelude.{Contains, slice_get, IsSome}
 use Rattle.std.proofs.lemmas.List.Elements.{All-nil, All-cons}
@@ -372,13 +372,6 @@ pub begins_take : (n : ℕ) (xs : List ℕ) → IsBeginning (take n xs) xs
 begins_take zero xs = (xs, refl)
 begins_take (suc n) [] = ([], refl)
 begins_take (suc n) (x ∷ xs) = let rest = begins_take n xs in (rest.0, ap (λ (l : List ℕ). x ∷ l) rest.1)
-
--- what was read begins what there was
-pub heard_begins : {E : Type 0} (result : Result Reply E) (bytes left : List ℕ) (touch : Touch)
-    → IfOk result (λ reply. bytes ≡ answer_frame (answers.Reply touch.gate touch.number reply) ++ left)
-    → IfOk result (λ reply. IsBeginning (answer_frame (answers.Reply touch.gate touch.number reply)) bytes)
-heard_begins (Ok reply) bytes left touch is = (left, is)
-heard_begins (Err fault) bytes left touch is = tt
 
 -- what was written whole to nothing is the frame
 pub sent_whole : (before after : List ℕ) (touch : Touch) → before ≡ []

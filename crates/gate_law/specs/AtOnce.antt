@@ -1,9 +1,9 @@
 -- What comes of a touch where nothing goes wrong: the station reads the whole frame, and the gate
 -- the whole frame of the answer (PROOFS.md, "A gate and its station").
 use Rattle.std.specs.Prelude.{◌≡◌, ◌≢◌, ℕ, true, length, Result, Ok, Err}
+use Rattle.station_limits.specs.declared.limits.TheConstants.{HISTORY_LIMIT}
 use Rattle.oyster_account.specs.declared.touch.Touch.{Touch}
 use Rattle.oyster_account.specs.declared.reply.Reply.{Reply}
-use Rattle.oyster_account.specs.declared.card.TheConstants.{HISTORY_LIMIT}
 use Rattle.reply_book.specs.declared.entry.Found.TheVariants.{New, Conflict}
 use Rattle.reply_book.specs.declared.book.Book.{Book}
 use Rattle.reply_book.specs.Book.{entries_of, tables_of, HasRoom}

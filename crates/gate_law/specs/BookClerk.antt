@@ -1,7 +1,7 @@
 -- What a clerk answers from a station's book (PROTOCOL.md, "Requests and their answers").
 use Rattle.std.specs.Prelude.{◌≡◌, false, length, Result, Ok, Err}
+use Rattle.station_limits.specs.declared.limits.TheConstants.{HISTORY_LIMIT}
 use Rattle.oyster_account.specs.declared.touch.Touch.{Touch}
-use Rattle.oyster_account.specs.declared.card.TheConstants.{HISTORY_LIMIT}
 use Rattle.reply_book.specs.declared.entry.Found.TheVariants.{New, Conflict as Other}
 use Rattle.reply_book.specs.declared.answering.Answered.{Answered}
 use Rattle.reply_book.specs.declared.answering.Answered.TheVariants.{Entered, Repeated}

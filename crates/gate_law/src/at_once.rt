@@ -9,7 +9,7 @@ ghost use Rattle.gate_law.specs.AtOnce.{DoesReply, IsHeard};
 
 use crate::book_clerk::fitting;
 use gate_client::{Client, HearFault};
-use gate_session::{ANSWER_SIZE, Answer, Clerk, FaultCode, REQUEST_SIZE, Request};
+use gate_session::{ANSWER_SIZE, Answer, Clerk, FaultCode, REQUEST_SIZE, Request, hand_over};
 use oyster_account::Reply;
 use std::sync::Wait;
 use tap_disk::Disk;
@@ -57,14 +57,4 @@ fn answer_to<C: Clerk, H: Wait>(rt: &H, clerk: &mut C, bytes: &[u8]) -> Answer
         };
     };
     hand_over(rt, clerk, request)
-}
-
-/// Hands a request over to a clerk.
-fn hand_over<C: Clerk, H: Wait>(rt: &H, clerk: &mut C, request: Request) -> Answer
-    ensures { C.gives clerk.old request result clerk.new }
-{
-    match request {
-        Request::Touch(touch) => clerk.submit(rt, touch),
-        Request::Enquire(card) => clerk.enquire(card),
-    }
 }

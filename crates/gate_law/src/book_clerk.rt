@@ -127,7 +127,7 @@ fn code_of(fault: AnswerFault) -> FaultCode
 }
 
 /// The answer, whose numbers are of their types.
-pub(crate) fn fitting(answer: Answer) -> Answer
+pub fn fitting(answer: Answer) -> Answer
     ensures same { result ≡ answer }
     ensures fits { AnswerFits answer }
 {

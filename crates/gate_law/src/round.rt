@@ -1,15 +1,13 @@
 //! A gate and a station over a line in memory: a touch is asked, sent and served, and its reply is
 //! heard.
-ghost use Rattle.std.specs.Prelude.{◌≡◌, ℕ, List, [], ◌∷◌, ◌++◌, Some, IsSome, IfOk, OnOk};
-ghost use Rattle.std.specs.Prelude.{OnErr, vec_items};
+ghost use Rattle.std.specs.Prelude.{◌≡◌, ℕ, List, [], ◌∷◌, ◌++◌, Some, IsSome, IfOk, OnErr};
+ghost use Rattle.std.specs.Prelude.{vec_items};
 ghost use Rattle.oyster_account.specs.declared.touch.Touch.{Touch};
 ghost use Rattle.oyster_account.specs.Touch.{Fits};
-ghost use Rattle.gate_session.specs.declared.answer.Answer.TheVariants as answers;
-ghost use Rattle.gate_session.specs.Answers.{answer_frame, ReplyFits};
 ghost use Rattle.text_io.specs.Writing.{IsBeginning};
 ghost use Rattle.gate_client.specs.Heard.{frame_of};
 ghost use Rattle.gate_client.specs.File.{next_touch};
-ghost use Rattle.gate_client.specs.Client.{HasAsked, answered, gate_of, waits_of};
+ghost use Rattle.gate_client.specs.Client.{HasAsked, gate_of, waits_of};
 ghost use Rattle.gate_law.specs.Joint.{Joint};
 ghost use Rattle.gate_law.specs.Settled.{IsServed, IsSettled, IsShown, IsRound, HasLegal};
 ghost use Rattle.gate_law.specs.Station.{StationState, KeepsStation};
@@ -35,7 +33,7 @@ pub struct Carried {
 
 /// Why a touch that waits has no reply. It waits on.
 #[derive(Clone, Copy, Debug, PartialEq, Eq)]
-pub enum SettleFault {
+pub enum NoReplyFault {
     /// There was no memory for its frame.
     Unsent,
     /// The gate heard no reply. The station has the touch or not.
@@ -48,7 +46,7 @@ pub enum TouchFault {
     /// It isn't kept, or may not be: as `Client::ask` says.
     Unasked(AskFault),
     /// It is kept, and waits.
-    Unsettled(SettleFault),
+    Unsettled(NoReplyFault),
 }
 
 /// Asks for a touch of this card, and settles it.
@@ -75,7 +73,7 @@ pub fn ask_and_settle<D: Disk, C: Clerk, H: Wait>(
         (station clerk.new) }
 {
     match client.ask(card, act) {
-        Ok(_) => match settle(rt, alloc, client, clerk, carried) {
+        Ok(_) => match settle_in_memory(rt, alloc, client, clerk, carried) {
             Ok(reply) => Ok(reply),
             Err(fault) => Err(TouchFault::Unsettled(fault)),
         },
@@ -87,13 +85,13 @@ pub fn ask_and_settle<D: Disk, C: Clerk, H: Wait>(
 /// `carried` says, has it answered, and hears the answer.
 ///
 /// At an `Err` the touch waits on, and the station has it or not: it can be settled again.
-pub fn settle<D: Disk, C: Clerk, H: Wait>(
+pub fn settle_in_memory<D: Disk, C: Clerk, H: Wait>(
     rt: &H,
     alloc: Global,
     client: &mut Client<D>,
     clerk: &mut C,
     carried: Carried,
-) -> Result<Reply, SettleFault>
+) -> Result<Reply, NoReplyFault>
     requires { IsSome (waits_of client.old) }
 
     // Where a reply is handed out, the touch stands once in the station's history, with that reply,
@@ -112,12 +110,12 @@ pub fn settle<D: Disk, C: Clerk, H: Wait>(
         → IsRound gate cards s touch result client.new (station clerk.new) }
 {
     let Ok(frame) = sent(alloc, client) else {
-        return Err(SettleFault::Unsent);
+        return Err(NoReplyFault::Unsent);
     };
     let text = served(rt, alloc, clerk, brought(&frame, carried.to_station));
-    match heard(client, brought(&text, carried.to_gate)) {
+    match client.hear_in(brought(&text, carried.to_gate)) {
         Ok(reply) => Ok(reply),
-        Err(fault) => Err(SettleFault::Unheard(fault)),
+        Err(fault) => Err(NoReplyFault::Unheard(fault)),
     }
 }
 
@@ -148,19 +146,4 @@ fn served<C: Clerk, H: Wait>(rt: &H, alloc: Global, clerk: &mut C, bytes: &[u8])
     let mut text = Vec::new(alloc);
     serve(rt, alloc, &mut reader, &mut text, clerk, READS);
     text
-}
-
-/// What a client hears of these bytes.
-fn heard<D: Disk>(client: &mut Client<D>, bytes: &[u8]) -> Result<Reply, HearFault>
-    requires { IsSome (waits_of client.old) }
-    ensures reply { (touch : Touch) → waits_of client.old ≡ Some touch
-        → IfOk result (λ reply. IsBeginning
-        (answer_frame (answers.Reply touch.gate touch.number reply)) bytes.now) }
-    ensures fits { IfOk result ReplyFits }
-    ensures answered { OnOk result (client.new ≡ answered client.old) }
-    ensures asked { (asked : List Touch) → HasAsked asked client.old → HasAsked asked client.new }
-    ensures kept { OnErr result (client.new ≡ client.old) }
-{
-    let mut reader = bytes;
-    client.hear(&mut reader)
 }

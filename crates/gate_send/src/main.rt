@@ -1,22 +1,13 @@
-//! A gate's program: it reads what to ask for as lines, keeps each touch in the gate's file, sends
-//! it to a station over TCP until its reply is there, and prints the reply. What it sends and tells
-//! is proved in `gate_client`; here are the command line, the file, sockets and times.
+//! A gate's program: it reads its command line, opens or makes the gate's file, and sends what is
+//! asked for, by the calls of `gate_command`.
 #![tactic(auto)]
 
-mod arguments;
-mod fault;
-mod file;
-mod lines;
-mod station;
-
-use crate::arguments::{Arguments, arguments_of, command};
-use crate::fault::{SendFault, tell_fault};
-use crate::file::gate_file;
-use crate::lines::{Sent, send_lines};
-use program_options::words_of;
+use gate_command::{
+    Arguments, SendFault, Sent, arguments_of, gate_file, send_lines, tell_fault, words_of,
+};
 use std::fs::File;
 use std::io;
-use std::net::{Net, TcpListener, TcpStream};
+use std::net::Net;
 use std::process::ExitCode;
 use std::rt::{Env, Files};
 use std::time::Clock;
@@ -30,32 +21,20 @@ fn main(rt: HostRuntime) -> io::Result<ExitCode> {
 }
 
 /// Does what the command line asks for.
-fn run<
-    R: AllocGlobal
-        + Env
-        + Files<File = File>
-        + Input
-        + Print
-        + Eprint
-        + Net<Listener = TcpListener, Stream = TcpStream>
-        + Clock,
->(rt: &R) -> Result<Sent, SendFault> {
-    let words = words_of(rt, &mut command(rt.alloc())?)?;
+fn run<R: AllocGlobal + Env + Files<File = File> + Input + Print + Eprint + Net + Clock>(
+    rt: &R,
+) -> Result<Sent, SendFault> {
+    let words = words_of(rt)?;
     let words: Vec<&str> = words.iter().map(|word| word.as_str()).collect(rt.alloc())?;
     let asked = arguments_of(rt.alloc(), words.as_slice())?;
     send(rt, &asked)
 }
 
 /// Opens or makes the gate's file, and sends what waits there and what the input asks for.
-fn send<
-    R: AllocGlobal
-        + Files<File = File>
-        + Input
-        + Print
-        + Eprint
-        + Net<Listener = TcpListener, Stream = TcpStream>
-        + Clock,
->(rt: &R, asked: &Arguments<'_>) -> Result<Sent, SendFault> {
-    let client = gate_file(rt, asked)?;
-    send_lines(rt, client, asked)
+fn send<R: AllocGlobal + Files<File = File> + Input + Print + Eprint + Net + Clock>(
+    rt: &R,
+    asked: &Arguments<'_>,
+) -> Result<Sent, SendFault> {
+    let mut client = gate_file(rt, asked)?;
+    send_lines(rt, &mut client, asked)
 }

@@ -4,7 +4,7 @@ use Rattle.std.specs.Fmt.{digits}
 use Rattle.hex.proofs.OnLiterals.{hex_on_literals}
 use Rattle.journal_audit.specs.declared.fault.AuditFault.TheVariants as audits
 use Rattle.journal_audit.specs.declared.fault.GateFault.TheVariants.{Foreign}
-use Rattle.journal_audit.specs.declared.fault.HeaderFault.TheVariants.{Capacity, Cards}
+use Rattle.journal_audit.specs.declared.fault.JournalHeaderFault.TheVariants.{Capacity, Cards}
 use Rattle.journal_audit.specs.declared.fault.SealFault.TheVariants.{Shorter, Changed}
 use Rattle.tap_journal.specs.declared.fault.JournalFault.{JournalFault}
 use Rattle.tap_journal.specs.declared.fault.JournalFault.TheVariants as journals

@@ -7,7 +7,7 @@ use Rattle.std.proofs.lemmas.List.Sums.{sum_by-cons, sum_by_more_le}
 use Rattle.std.proofs.lemmas.List.{append-nil}
 use Rattle.std.proofs.lemmas.List.Elements.{All-append}
 use Rattle.std.proofs.lemmas.List.FromFn.{filter_of_map_range_with_len_more}
-use Rattle.oyster_account.specs.declared.card.TheConstants.{HISTORY_LIMIT}
+use Rattle.station_limits.specs.declared.limits.TheConstants.{HISTORY_LIMIT}
 use Rattle.oyster_account.specs.declared.reply.Judged.{Judged}
 use Rattle.reply_book.specs.Tables.{Tables}
 use Rattle.journal_audit.specs.declared.balances.row.Row.{Row}

@@ -2,7 +2,7 @@
 -- project's choice).
 use Rattle.std.specs.Prelude.{◌≡◌, ◌≤◌, ℕ, Bool, true, false, List, map, filter, sum_by}
 use Rattle.std.specs.List.{range_with_len}
-use Rattle.oyster_account.specs.declared.card.TheConstants.{HISTORY_LIMIT}
+use Rattle.station_limits.specs.declared.limits.TheConstants.{HISTORY_LIMIT}
 use Rattle.oyster_account.specs.declared.reply.CardState.{CardState}
 use Rattle.oyster_account.specs.declared.reply.CardState.TheVariants.{Vacant, Outside, Inside}
 use Rattle.oyster_account.specs.declared.reply.Judged.{Judged}

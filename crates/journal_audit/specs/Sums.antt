@@ -2,7 +2,7 @@
 -- and refused" and "Verdicts"; that a statement of a card has these sums is this project's choice).
 use Rattle.std.specs.Prelude.{◌≡◌, ◌≤◌, ℕ, suc, ◌+◌, ◌*◌, ◌^◌, ℤ, pos, negsuc, ◌-ℤ◌, List, filter}
 use Rattle.std.specs.Prelude.{sum_by, slice_get, Some}
-use Rattle.oyster_account.specs.declared.card.TheConstants.{HISTORY_LIMIT}
+use Rattle.station_limits.specs.declared.limits.TheConstants.{HISTORY_LIMIT}
 use Rattle.oyster_account.specs.declared.touch.Act.{Act}
 use Rattle.oyster_account.specs.declared.touch.Act.TheVariants.{Enter, Leave, TopUp, Issue, Revise}
 use Rattle.oyster_account.specs.declared.reply.Judged.{Judged}

@@ -4,8 +4,8 @@ use Rattle.std.specs.Fmt.{decimal}
 use Rattle.journal_audit.specs.declared.fault.GateFault.{GateFault}
 use Rattle.journal_audit.specs.declared.fault.GateFault.TheVariants.{NoFile, AnotherFile, Damaged}
 use Rattle.journal_audit.specs.declared.fault.GateFault.TheVariants.{Foreign}
-use Rattle.journal_audit.specs.declared.fault.HeaderFault.{HeaderFault}
-use Rattle.journal_audit.specs.declared.fault.HeaderFault.TheVariants.{Capacity, Cards}
+use Rattle.journal_audit.specs.declared.fault.JournalHeaderFault.{JournalHeaderFault}
+use Rattle.journal_audit.specs.declared.fault.JournalHeaderFault.TheVariants.{Capacity, Cards}
 use Rattle.journal_audit.specs.declared.fault.SealFault.{SealFault}
 use Rattle.journal_audit.specs.declared.fault.SealFault.TheVariants.{Shorter, Changed}
 
@@ -14,7 +14,7 @@ abbrev pub two_numbers : ℕ → ℕ → List ℕ
 two_numbers found wanted = decimal found ++ (codes ", not " ++ decimal wanted)
 
 -- of a header: its number, its name, what it says, and what was expected
-abbrev pub printed_header_fault : HeaderFault → List ℕ
+abbrev pub printed_header_fault : JournalHeaderFault → List ℕ
 printed_header_fault (Capacity says expected) = codes "1 Capacity " ++ two_numbers says expected
 printed_header_fault (Cards says expected) = codes "2 Cards " ++ two_numbers says expected
 

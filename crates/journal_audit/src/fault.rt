@@ -14,7 +14,7 @@ use thiserror::Error;
 /// Why a header doesn't say what is expected of it, in the order in which the causes are looked
 /// for. The printed numbers begin at 1.
 #[derive(Clone, Copy, Debug, PartialEq, Eq, Error)]
-pub enum HeaderFault {
+pub enum JournalHeaderFault {
     /// It says another capacity than the expected one.
     Capacity { says: u32, expected: u32 },
     /// It says another number of cards than the expected one.
@@ -61,7 +61,7 @@ pub enum AuditFault {
     Journal(Refused),
     /// The journal's header doesn't say what is expected of it.
     #[error("{0}")]
-    Header(HeaderFault),
+    Header(JournalHeaderFault),
     /// The journal isn't the one that was sealed.
     #[error("{0}")]
     Seal(SealFault),
@@ -97,15 +97,17 @@ impl fmt::Display for SealFault {
 
 /// Prints the fault's number and name, and both numbers: what stands in a fault line behind
 /// `fault header `.
-impl fmt::Display for HeaderFault {
+impl fmt::Display for JournalHeaderFault {
     ghost output = { λ fault. Some (printed_header_fault fault) };
 
     fn fmt<W: fmt::Write>(&self, f: &mut fmt::Formatter<W>) -> fmt::Result {
         match *self {
-            HeaderFault::Capacity { says, expected } => {
+            JournalHeaderFault::Capacity { says, expected } => {
                 write!(f, "1 Capacity {says}, not {expected}")
             }
-            HeaderFault::Cards { says, expected } => write!(f, "2 Cards {says}, not {expected}"),
+            JournalHeaderFault::Cards { says, expected } => {
+                write!(f, "2 Cards {says}, not {expected}")
+            }
         }
     }
 }
@@ -165,10 +167,10 @@ impl From<SealFault> for AuditFault {
     }
 }
 
-impl From<HeaderFault> for AuditFault {
+impl From<JournalHeaderFault> for AuditFault {
     ghost from_gives = { λ given fault. fault ≡ cause.Header given };
 
-    fn from(fault: HeaderFault) -> AuditFault {
+    fn from(fault: JournalHeaderFault) -> AuditFault {
         AuditFault::Header(fault)
     }
 }

@@ -9,14 +9,15 @@ use Rattle.reply_book.specs.Tables.{Tables}
 use Rattle.reply_book.specs.Lookup.{found, is_same_touch}
 use Rattle.reply_book.specs.View.{view_after}
 use Rattle.line_replay.specs.declared.hex_line.TheConstants.{LINE_FEED, LINE_LIMIT}
-use Rattle.line_replay.specs.declared.fault.ReplayFault.{ReplayFault}
-use Rattle.line_replay.specs.declared.fault.ReplayFault.TheVariants as fault
+use Rattle.text_io.specs.declared.fault.RunFault.{RunFault}
+use Rattle.text_io.specs.Texts.{printed_run_fault}
+use Rattle.line_replay.specs.declared.fault.LineReplayFault.TheVariants as fault
 use Rattle.console.specs.Told.{told_trial}
 use Rattle.line_replay.specs.Line.{lines_of}
 use Rattle.line_replay.specs.HexLine.{request_of, request_of_line, answer_line}
 use Rattle.line_replay.specs.Station.{answer, after}
 use Rattle.line_replay.specs.Replay.{Output, output_of_lines, output_of}
-use Rattle.line_replay.specs.Texts.{printed_replay_fault, replay_fault}
+use Rattle.line_replay.specs.Fault.{replay_fault}
 
 -- a line of digits
 abbrev line : List ℕ → List ℕ
@@ -83,15 +84,15 @@ short_revision : request_of_line (codes "0013060007000000020000" ++ codes "00010
 unfolding on_literals
 short_revision = refl
 
-printed_bad_line : printed_replay_fault (fault.BadLine 7) ≡ codes "fault run 4 BadLine 7"
+-- the command `replay` tells the number of a bad line
+told_bad_line : told_trial (replay_fault (fault.BadLine 7)) ≡ Some (codes "fault run 4 BadLine 7")
 unfolding digits
-printed_bad_line = refl
+told_bad_line = refl
 
-printed_line_of_three_digits : printed_replay_fault (fault.BadLine 129) ≡ codes "fault run 4 BadLine 129"
+told_line_of_three_digits : told_trial (replay_fault (fault.BadLine 129)) ≡ Some (codes "fault run 4 BadLine 129")
 unfolding digits
-printed_line_of_three_digits = refl
+told_line_of_three_digits = refl
 
--- the command `replay` tells a fault by the line that the fault prints
-told_as_it_is_printed : (early : ReplayFault) → told_trial (replay_fault early) ≡ Some (printed_replay_fault early)
-told_as_it_is_printed (fault.Run run) = refl
-told_as_it_is_printed (fault.BadLine number) = refl
+-- and a fault of the run as the run's
+told_of_the_run : (run : RunFault) → told_trial (replay_fault (fault.Run run)) ≡ Some (printed_run_fault run)
+told_of_the_run run = refl

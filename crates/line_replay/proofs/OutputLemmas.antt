@@ -5,8 +5,8 @@ use Rattle.std.proofs.lemmas.List.{append-nil, length-append}
 use Rattle.reply_book.specs.declared.entry.Entry.{Entry}
 use Rattle.reply_book.specs.Tables.{Tables}
 use Rattle.gate_session.specs.declared.request.Request.{Request}
-use Rattle.line_replay.specs.declared.fault.ReplayFault.{ReplayFault}
-use Rattle.line_replay.specs.declared.fault.ReplayFault.TheVariants.{Run, BadLine}
+use Rattle.line_replay.specs.declared.fault.LineReplayFault.{LineReplayFault}
+use Rattle.line_replay.specs.declared.fault.LineReplayFault.TheVariants.{Run, BadLine}
 use Rattle.text_io.specs.declared.fault.RunFault.TheVariants.{Memory, Read, Write}
 use Rattle.line_replay.specs.Line.{lines_of, IsUnended}
 use Rattle.line_replay.specs.HexLine.{request_of_line, answer_line}
@@ -85,7 +85,7 @@ output-nothing tables cards entries number = refl
 -- ---- how a replay stops
 
 -- the refusal of a line whose output is that refusal
-pub HasRefused-stopped : (text new : List ℕ) (number : ℕ) (output : Output) (fault : ReplayFault)
+pub HasRefused-stopped : (text new : List ℕ) (number : ℕ) (output : Output) (fault : LineReplayFault)
     → output ≡ refused number
     → HasRefused text number new fault → HasStopped (behind text output) new fault
 HasRefused-stopped text new number output (BadLine bad) is said =
@@ -109,13 +109,13 @@ IsBeginning-of written text whole first second =
     (first.0 ++ second.0, second.1 ∙ ap (λ (l : List ℕ). l ++ second.0) first.1 ∙ append_assoc written first.0 second.0)
 
 -- what was written at a fault begins the output
-pub HasStopped-begins : (output : Output) (text : List ℕ) (fault : ReplayFault) → HasStopped output text fault
+pub HasStopped-begins : (output : Output) (text : List ℕ) (fault : LineReplayFault) → HasStopped output text fault
     → IsBeginning text output.text
 HasStopped-begins output text (BadLine number) stops = ([], ap (λ (o : Output). o.text) stops ∙ sym (append-nil text))
 HasStopped-begins output text (Run fault) stops = stops
 
 -- so does what was written at any end
-pub HasWritten-begins : (output : Output) (text : List ℕ) (result : Result Unit ReplayFault)
+pub HasWritten-begins : (output : Output) (text : List ℕ) (result : Result Unit LineReplayFault)
     → HasWritten output text result → IsBeginning text output.text
 HasWritten-begins output text (Ok done) is = ([], ap (λ (o : Output). o.text) is ∙ sym (append-nil text))
 HasWritten-begins output text (Err fault) stops = HasStopped-begins output text fault stops
@@ -123,7 +123,7 @@ HasWritten-begins output text (Err fault) stops = HasStopped-begins output text 
 -- ---- exits by `?`
 
 -- without memory a beginning was written
-pub stopped-memory : (result : Result Unit ReplayFault) (output : List ℕ → Output) (text : List ℕ)
+pub stopped-memory : (result : Result Unit LineReplayFault) (output : List ℕ → Output) (text : List ℕ)
     → IsErrAnd result (λ fault. fault ≡ Run Memory)
     → ((later : List ℕ) → IsBeginning text (output later).text)
     → IfErr result (λ fault. (later : List ℕ) → HasStopped (output later) text fault)
@@ -132,7 +132,8 @@ stopped-memory (Err fault) output text is begins = λ later. subst (HasStopped (
     (begins later)
 
 -- a fault that is passed on
-pub stopped-passed : (result : Result Unit ReplayFault) (output : List ℕ → Output) (text : List ℕ) (fault : ReplayFault)
+pub stopped-passed : (result : Result Unit LineReplayFault) (output : List ℕ → Output) (text : List ℕ)
+    (fault : LineReplayFault)
     → IsErrAnd result (λ given. given ≡ fault)
     → ((later : List ℕ) → HasStopped (output later) text fault)
     → IfErr result (λ given. (later : List ℕ) → HasStopped (output later) text given)
@@ -157,7 +158,7 @@ on_ok-any (Ok x) p = p
 on_ok-any (Err e) p = tt
 
 -- a refusal that is returned
-pub if_refused : {P Q : ReplayFault → Type 0} (result : Result Unit ReplayFault)
-    → ((fault : ReplayFault) → P fault → Q fault) → IsErrAnd result P → IfErr result Q
+pub if_refused : {P Q : LineReplayFault → Type 0} (result : Result Unit LineReplayFault)
+    → ((fault : LineReplayFault) → P fault → Q fault) → IsErrAnd result P → IfErr result Q
 if_refused (Ok x) f p = tt
 if_refused (Err fault) f p = f fault p

@@ -4,10 +4,10 @@ use Rattle.std.specs.Prelude.{◌≡◌, ℕ, List, Option, None}
 use Rattle.text_io.specs.Writing.{Ran}
 use Rattle.line_replay.specs.Replay.{Output, output_of}
 use Rattle.line_replay.specs.Run.{HasStopped}
-use Rattle.line_replay.specs.declared.fault.ReplayFault.{ReplayFault}
+use Rattle.line_replay.specs.declared.fault.LineReplayFault.{LineReplayFault}
 use Rattle.table_check.specs.Tables.{ForTables}
 use Rattle.console.specs.declared.fault.TrialFault.{TrialFault}
-use Rattle.line_replay.specs.Texts.{replay_fault}
+use Rattle.line_replay.specs.Fault.{replay_fault}
 
 -- all of the output was written, and no line is bad
 abbrev pub IsWhole : Output → List ℕ → Type 0
@@ -31,6 +31,6 @@ HasReplayed gave first further cards unread left before after Says =
 abbrev pub HasEndedEarly : (List ℕ → List ℕ → Type 0) → Option (List ℕ) → List (List ℕ) → ℕ
     → Option (List ℕ) → Option (List ℕ) → Option (List ℕ) → Option (List ℕ) → TrialFault → Type 0
 HasEndedEarly gave first further cards unread left before after fault =
-    (early : ReplayFault) × (fault ≡ replay_fault early)
+    (early : LineReplayFault) × (fault ≡ replay_fault early)
     × HasReplayed gave first further cards unread left before after
     (λ output text. HasStopped output text early)

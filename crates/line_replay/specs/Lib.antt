@@ -4,5 +4,5 @@ pub mod Station
 pub mod Replay
 pub mod Progress
 pub mod Run
-pub mod Texts
+pub mod Fault
 pub mod Input

@@ -1,19 +1,17 @@
 //! Why a replay ended early.
 
-ghost use Rattle.std.specs.Prelude.{◌≡◌, Some};
+ghost use Rattle.std.specs.Prelude.{◌≡◌};
 ghost use Rattle.text_io.specs.declared.fault.RunFault.TheVariants.{Memory, Write};
-ghost use Rattle.line_replay.specs.declared.fault.ReplayFault.TheVariants.{Run};
-ghost use Rattle.line_replay.specs.Texts.{printed_replay_fault, replay_fault};
+ghost use Rattle.line_replay.specs.declared.fault.LineReplayFault.TheVariants.{Run};
+ghost use Rattle.line_replay.specs.Fault.{replay_fault};
 
 use console::TrialFault;
 use std::alloc::{AllocError, AllocFailed};
-use std::fmt;
 use text_io::{RunFault, WriteFault};
-use thiserror::Error;
 
 /// Why a replay ended early.
-#[derive(Clone, Copy, Debug, PartialEq, Eq, Error)]
-pub enum ReplayFault {
+#[derive(Clone, Copy, Debug, PartialEq, Eq)]
+pub enum LineReplayFault {
     /// There was no memory for the cards, a touch, a line or an answer, or a read or a write
     /// failed.
     Run(RunFault),
@@ -21,59 +19,46 @@ pub enum ReplayFault {
     BadLine(u64),
 }
 
-/// Prints the line that standard error gets of the fault: its number and its name, and the number
-/// of the bad line. It is written by hand, since the derive doesn't state what it prints.
-impl fmt::Display for ReplayFault {
-    ghost output = { λ fault. Some (printed_replay_fault fault) };
-
-    fn fmt<W: fmt::Write>(&self, f: &mut fmt::Formatter<W>) -> fmt::Result {
-        match self {
-            ReplayFault::Run(fault) => write!(f, "{fault}"),
-            ReplayFault::BadLine(number) => write!(f, "fault run 4 BadLine {number}"),
-        }
-    }
-}
-
-impl From<RunFault> for ReplayFault {
+impl From<RunFault> for LineReplayFault {
     ghost from_gives = { λ given fault. fault ≡ Run given };
 
-    fn from(fault: RunFault) -> ReplayFault {
-        ReplayFault::Run(fault)
+    fn from(fault: RunFault) -> LineReplayFault {
+        LineReplayFault::Run(fault)
     }
 }
 
-impl From<AllocError> for ReplayFault {
+impl From<AllocError> for LineReplayFault {
     ghost from_gives = { λ _ fault. fault ≡ Run Memory };
 
-    fn from(_error: AllocError) -> ReplayFault {
-        ReplayFault::Run(RunFault::Memory)
+    fn from(_error: AllocError) -> LineReplayFault {
+        LineReplayFault::Run(RunFault::Memory)
     }
 }
 
-impl<T: Drop> From<AllocFailed<T>> for ReplayFault {
+impl<T: Drop> From<AllocFailed<T>> for LineReplayFault {
     ghost from_gives = { λ _ fault. fault ≡ Run Memory };
 
-    fn from(_error: AllocFailed<T>) -> ReplayFault {
-        ReplayFault::Run(RunFault::Memory)
+    fn from(_error: AllocFailed<T>) -> LineReplayFault {
+        LineReplayFault::Run(RunFault::Memory)
     }
 }
 
-impl From<WriteFault> for ReplayFault {
+impl From<WriteFault> for LineReplayFault {
     ghost from_gives = { λ _ fault. fault ≡ Run Write };
 
-    fn from(_fault: WriteFault) -> ReplayFault {
-        ReplayFault::Run(RunFault::Write)
+    fn from(_fault: WriteFault) -> LineReplayFault {
+        LineReplayFault::Run(RunFault::Write)
     }
 }
 
 /// Why a replay ended early is told as it is.
-impl From<ReplayFault> for TrialFault {
+impl From<LineReplayFault> for TrialFault {
     ghost from_gives = { λ given fault. fault ≡ replay_fault given };
 
-    fn from(fault: ReplayFault) -> TrialFault {
+    fn from(fault: LineReplayFault) -> TrialFault {
         match fault {
-            ReplayFault::Run(fault) => TrialFault::Run(fault),
-            ReplayFault::BadLine(number) => TrialFault::BadLine(number),
+            LineReplayFault::Run(fault) => TrialFault::Run(fault),
+            LineReplayFault::BadLine(number) => TrialFault::BadLine(number),
         }
     }
 }

@@ -2,8 +2,8 @@
 
 ghost use Rattle.std.specs.Prelude.{◌≡◌, ◌⊎◌, IfOk, IfErr, OnOk, map, option_map};
 ghost use Rattle.std.specs.Process.{exit_status};
+ghost use Rattle.station_limits.specs.declared.limits.TheConstants.{CARDS_LIMIT};
 ghost use Rattle.program_options.specs.Numbers.{IsWithin};
-ghost use Rattle.reply_book.specs.declared.book.TheConstants.{CARD_LIMIT};
 ghost use Rattle.table_check.specs.Tables.{AreRefused};
 ghost use Rattle.line_replay.specs.Input.{IsWhole, IsUnasked, HasReplayed, HasEndedEarly};
 
@@ -29,7 +29,7 @@ pub fn replay_input<F: WholeFiles, R: Read, W: Write>(
     reader: &mut R,
     writer: &mut W,
 ) -> Result<ExitCode, TrialFault>
-    requires { IsWithin CARD_LIMIT cards }
+    requires { IsWithin CARDS_LIMIT cards }
     ensures ok { OnOk result (HasReplayed (F.gave files.now)
         (option_map (λ word. word.now) table.entry) (map (λ word. word.now) revisions.now) cards
         (R.remaining reader.old) (R.remaining reader.new)

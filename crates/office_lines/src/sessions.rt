@@ -49,7 +49,7 @@ pub(crate) fn serve_connection<I: Read, O: Write, N: Named, D: Disk, T: Watch, R
         desk,
     };
     match service.door {
-        Some(door) => serve_at_door(rt, alloc, service, door, &mut clerk, connection),
+        Some(door) => enter_and_serve(rt, alloc, service, door, &mut clerk, connection),
         None => serve_clerk(rt, alloc, &mut clerk, connection),
     }
 }
@@ -80,7 +80,7 @@ fn serve_clerk<I: Read, O: Write, N: Named, D: Disk, T: Watch, R: Wait>(
 
 /// Serves one connection at a door, by the rule of its name. One for which there is no rule, or no
 /// place, is shown to the watch and isn't served.
-fn serve_at_door<'a, I: Read, O: Write, N: Named, D: Disk, T: Watch, R: Wait + Clock>(
+fn enter_and_serve<'a, I: Read, O: Write, N: Named, D: Disk, T: Watch, R: Wait + Clock>(
     rt: &R,
     alloc: Global,
     service: &Service<'_, N, D, T>,

@@ -16,7 +16,6 @@ use Rattle.oyster_account.specs.declared.touch.Act.TheVariants.{Enter, Leave, To
 use Rattle.oyster_account.specs.declared.reply.Reply.{Reply}
 use Rattle.oyster_account.specs.declared.reply.Judged.{Judged}
 use Rattle.fare_table.specs.declared.key.TheConstants.{HIGHEST_PRICE, MOST_CAPS}
-use Rattle.oyster_account.specs.declared.card.TheConstants.{HISTORY_LIMIT}
 use Rattle.oyster_account.specs.declared.travel.TheConstants.{SECONDS_PER_MINUTE}
 use Rattle.oyster_account.specs.declared.refusal.TheConstants.{TOP_UP_LIMIT}
 use Rattle.oyster_account.specs.declared.verdict.TheConstants.{FIRST_REFUSAL}
@@ -33,10 +32,7 @@ use Rattle.oyster_account.specs.Scheme.{Scheme, terms_of}
 use Rattle.oyster_account.specs.History.{is_accepted}
 use Rattle.oyster_account.specs.Judge.{judge, revision_reply}
 
--- a history has at most a million touches, and a card keeps the sums of at most 32 caps
-a_million : HISTORY_LIMIT ≡ 1_000_000
-a_million = refl
-
+-- a card keeps the sums of at most 32 caps
 many_caps : MOST_CAPS ≡ 32
 many_caps = refl
 

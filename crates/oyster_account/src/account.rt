@@ -2,7 +2,7 @@
 
 ghost use Rattle.std.specs.Prelude.{◌≡◌, negsuc, pos, ◌^◌, ◌≤ℤ◌, ◌+◌, ◌<◌, ℕ, false};
 ghost use Rattle.std.specs.Prelude.{List, [], ◌∷◌};
-ghost use Rattle.oyster_account.specs.declared.card.TheConstants.{HISTORY_LIMIT};
+ghost use Rattle.station_limits.specs.declared.limits.TheConstants.{HISTORY_LIMIT};
 ghost use Rattle.oyster_account.specs.declared.touch.Act.{Act};
 ghost use Rattle.oyster_account.specs.Touch.{moment_of};
 ghost use Rattle.oyster_account.specs.Scheme.{Scheme, scheme_of};

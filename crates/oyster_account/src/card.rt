@@ -1,7 +1,7 @@
 //! A card, as the touches that it was judged by.
 
 ghost use Rattle.std.specs.Prelude.{◌≤◌};
-ghost use Rattle.oyster_account.specs.declared.card.TheConstants.{HISTORY_LIMIT};
+ghost use Rattle.station_limits.specs.declared.limits.TheConstants.{HISTORY_LIMIT};
 
 use crate::account::{Account, Judgement};
 use crate::reply::{CardView, Reply};
@@ -9,9 +9,6 @@ use crate::touch::Touch;
 use fare_schedule::Schedule;
 use money_time::Stamp;
 use std::alloc::{AllocError, Global};
-
-/// The most touches that a history has.
-pub const HISTORY_LIMIT: u32 = 1_000_000;
 
 /// The most bytes that a card takes: a station keeps 100,000 of them in memory.
 const CARD_SIZE: usize = 400;

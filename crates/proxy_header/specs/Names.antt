@@ -5,6 +5,7 @@ use Rattle.std.specs.Prelude.{◌≡◌, ◌≢◌, ℕ, ◌<◌, ◌≤◌, ◌
 use Rattle.std.specs.Prelude.{Option, Some, None, IsUtf8, bit_and}
 use Rattle.std.specs.List.{HoldsAt}
 use Rattle.std.specs.Str.{chars}
+use Rattle.station_limits.specs.declared.limits.TheConstants.{CERTIFICATE_NAME_LIMIT}
 use Rattle.proxy_header.specs.Tlvs.{TypeLengthValue, IsRow, values_of}
 
 -- the client presented a certificate, on this connection or on an earlier one of its TLS session,
@@ -52,10 +53,9 @@ IsControl code = (code < 0x20) ⊎ ((0x7f ≤ code) × (code < 0xa0))
 abbrev pub HasControl : List ℕ → Type 0
 HasControl text = (place : ℕ) × (place < length (chars text)) × HoldsAt IsControl (chars text) place
 
--- a name that is taken: 1 to 64 bytes of UTF-8 (64 is X.509's limit of a common name) without a
--- control character
+-- a name that is taken: 1 to 64 bytes of UTF-8 without a control character
 pub record IsName (name : List ℕ) : Type 0 where
   pub some : 0 < length name
-  pub limit : length name ≤ 64
+  pub limit : length name ≤ CERTIFICATE_NAME_LIMIT
   pub text : IsUtf8 name
   pub printable : HasControl name → ⊥

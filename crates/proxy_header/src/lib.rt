@@ -14,4 +14,4 @@ mod tlv;
 pub use fault::HeaderFault;
 pub use header::{Header, read_header};
 pub use laws::one_header;
-pub use name::{NAME_SIZE, Name};
+pub use name::Name;

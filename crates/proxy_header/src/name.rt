@@ -5,15 +5,13 @@ ghost use Rattle.proxy_header.specs.Names.{IsName, HasControl};
 ghost use Rattle.proxy_header.specs.Header.{name_text};
 
 use arrayvec::ArrayString;
+use station_limits::CERTIFICATE_NAME_LIMIT;
 use std::fmt;
-
-/// The most bytes of a name: X.509's limit of a common name.
-pub const NAME_SIZE: usize = 64;
 
 /// The common name of a client's certificate: 1 to 64 bytes of UTF-8 without a control character.
 #[derive(Clone, Copy, Debug, PartialEq, Eq)]
 pub struct Name {
-    text: ArrayString<NAME_SIZE>,
+    text: ArrayString<CERTIFICATE_NAME_LIMIT>,
 }
 
 impl Name {

@@ -14,4 +14,3 @@ pub mod ApplyLemmas
 pub mod LawLemmas
 pub mod JudgingLemmas
 pub mod CallerLemmas
-mod Examples

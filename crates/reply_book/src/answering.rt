@@ -5,7 +5,8 @@ ghost use Rattle.reply_book.specs.declared.answering.AnswerFault.TheVariants.{Me
 
 use crate::book::Book;
 use crate::entry::Found;
-use oyster_account::{HISTORY_LIMIT, Reply, Touch};
+use oyster_account::{Reply, Touch};
+use station_limits::HISTORY_LIMIT;
 use std::alloc::AllocError;
 use thiserror::Error;
 
@@ -44,7 +45,7 @@ impl From<AllocError> for AnswerFault {
 }
 
 impl Book {
-    ghost use Rattle.oyster_account.specs.declared.card.TheConstants.{HISTORY_LIMIT};
+    ghost use Rattle.station_limits.specs.declared.limits.TheConstants.{HISTORY_LIMIT};
     ghost use Rattle.reply_book.specs.declared.entry.Found.TheVariants.{New};
     ghost use Rattle.reply_book.specs.Lookup.{found};
     ghost use Rattle.reply_book.specs.Book.{entries_of, Stands};

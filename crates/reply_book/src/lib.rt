@@ -15,7 +15,7 @@ mod reached;
 mod replay;
 
 pub use answering::{AnswerFault, Answered};
-pub use book::{Book, CARD_LIMIT};
+pub use book::Book;
 pub use entry::{Entry, Found};
 pub use fault::ReplayFault;
 pub use hashing::{NameHasher, NameHashing};

@@ -1,7 +1,7 @@
 -- What the lines of a card of a book print is its statement in the journal.
 use Rattle.std.proofs.Common.{◌≡◌, ◌≤◌, ℕ, List, length, sym, ap, ◌∙◌, subst, arith}
 use Rattle.std.proofs.lemmas.List.{length-map}
-use Rattle.oyster_account.specs.declared.card.TheConstants.{HISTORY_LIMIT}
+use Rattle.station_limits.specs.declared.limits.TheConstants.{HISTORY_LIMIT}
 use Rattle.oyster_account.specs.declared.reply.Judged.{Judged}
 use Rattle.oyster_account.specs.declared.reply.CardState.{CardState}
 use Rattle.oyster_account.specs.declared.reply.CardState.TheVariants.{Vacant}

@@ -1,7 +1,7 @@
 //! The statement of a card from its touches, in one of the formats.
 
 ghost use Rattle.std.specs.Prelude.{◌≡◌, ◌≤◌, length, IfOk};
-ghost use Rattle.oyster_account.specs.declared.card.TheConstants.{HISTORY_LIMIT};
+ghost use Rattle.station_limits.specs.declared.limits.TheConstants.{HISTORY_LIMIT};
 ghost use Rattle.oyster_account.specs.Scheme.{scheme_of};
 ghost use Rattle.oyster_account.specs.Travel.{travel};
 ghost use Rattle.oyster_account.specs.Order.{IsInOrder};

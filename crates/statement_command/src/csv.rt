@@ -11,11 +11,10 @@ ghost use Rattle.statement_command.specs.Words.{sign_word, balance_pence};
 
 use crate::line::{Line, Refusal, Sums};
 use crate::put::Printed;
-use crate::words::{
-    balance_pence, band_word, cap_word, covered_word, reason_word, sign_word, verdict_word,
-};
+use crate::words::{balance_pence, band_word, cap_word, covered_word, reason_word, sign_word};
 use card_statement::{Incomplete, JourneyRow};
 use fare_table::Cap;
+use journal_audit::verdict_field;
 use oyster_account::Act;
 use std::alloc::{AllocError, Global};
 
@@ -245,7 +244,7 @@ fn put_refused(alloc: Global, out: &mut Printed, refusal: &Refusal) -> Result<()
     ensures { OnOk result (out.new.text.items ≡ out.old.text.items ++ refused_row refusal.now) }
 {
     let pence = refused_pence(alloc, &refusal.act)?;
-    let verdict = verdict_word(refusal.verdict);
+    let verdict = verdict_field(refusal.verdict);
     let station = refused_station(alloc, &refusal.act)?;
     let middle = format!(in alloc; "{pence},,,{verdict},{station}")?;
     let moment = Some(refusal.stamp.moment);

@@ -6,10 +6,11 @@ use crate::line::{Line, Refusal, Sums};
 use crate::put::Printed;
 use crate::station::name_of;
 use crate::text::clock_of;
-use crate::words::{balance_pence, reason_word, sign_word, verdict_word};
+use crate::words::{balance_pence, reason_word, sign_word};
 use card_statement::{Incomplete, JourneyRow, TopUp};
 use fare_schedule::Schedule;
 use fare_table::Cap;
+use journal_audit::verdict_field;
 use oyster_account::{Act, Passage};
 use std::alloc::{AllocError, Global};
 
@@ -291,7 +292,7 @@ fn put_refused(alloc: Global, out: &mut Printed, refusal: &Refusal) -> Result<()
     out.put("\",\"moment\":\"")?;
     out.put_moment(refusal.stamp.moment)?;
     out.put("\",\"verdict\":\"")?;
-    out.put(verdict_word(refusal.verdict))?;
+    out.put(verdict_field(refusal.verdict))?;
     out.put("\",\"act\":")?;
     put_act(alloc, out, &refusal.act)?;
     out.put("}")

@@ -3,10 +3,11 @@
 use crate::line::{Line, Refusal, Sums};
 use crate::put::Printed;
 use crate::station::shown_station;
-use crate::words::{balance_pence, band_word, cap_word, sign_word, verdict_word};
+use crate::words::{balance_pence, band_word, cap_word, sign_word};
 use card_statement::{Incomplete, JourneyRow, Reason, TopUp};
 use fare_schedule::Schedule;
 use fare_table::Cap;
+use journal_audit::verdict_field;
 use money_time::{FARE_DAY_START, Stamp};
 use oyster_account::{Act, Passage};
 use std::alloc::{AllocError, Global};
@@ -247,7 +248,7 @@ fn put_refused(
     out.put("            ")?;
     put_when(alloc, out, refusal.stamp)?;
     out.put("  ")?;
-    out.put(verdict_word(refusal.verdict))?;
+    out.put(verdict_field(refusal.verdict))?;
     out.put(": ")?;
     put_act(alloc, schedule, out, refusal)?;
     out.put("\n")

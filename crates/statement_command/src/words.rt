@@ -1,12 +1,10 @@
 //! Words and amounts that more than one format prints.
 
 ghost use Rattle.std.specs.Prelude.{◌≡◌};
-ghost use Rattle.journal_audit.specs.HistoryRow.{verdict_field};
 ghost use Rattle.statement_command.specs.Words.{band_word, cap_word, reason_word, covered_word};
 ghost use Rattle.statement_command.specs.Words.{sign_word, balance_pence};
 
 use card_statement::Reason;
-use oyster_account::verdict_name;
 
 /// The band of a fare.
 pub(crate) fn band_word(off_peak: bool) -> &'static str
@@ -57,16 +55,5 @@ pub(crate) fn balance_pence(paid_in: u64, charged: u64) -> u64
         charged - paid_in
     } else {
         paid_in - charged
-    }
-}
-
-/// The name of the verdict that has this code (FARES.md, "Verdicts"). It is empty if none has.
-#[tactic(auto, unfolding(journal_audit::specs::HistoryRow::verdict_field))]
-pub(crate) fn verdict_word(verdict: u8) -> &'static str
-    ensures { result.now ≡ verdict_field verdict }
-{
-    match verdict_name(verdict) {
-        Some(name) => name,
-        None => "",
     }
 }

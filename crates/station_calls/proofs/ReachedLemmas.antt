@@ -21,7 +21,7 @@ use Rattle.gate_law.specs.WholeAgreement.{IsRun, IsStart}
 use Rattle.gate_law.proofs.ListLemmas.{contains-none}
 use Rattle.gate_law.proofs.ViewLemmas.{with-own}
 use Rattle.gate_law.proofs.WholeLemmas.{run-then}
-use Rattle.gate_law.specs.declared.round.SettleFault.{SettleFault}
+use Rattle.gate_law.specs.declared.round.NoReplyFault.{NoReplyFault}
 use Rattle.gate_law.specs.Shown as gates
 use Rattle.gate_law.specs.ClientRuns.{gone_in, IsClientRun}
 use Rattle.gate_law.proofs.ClientLemmas.{blank-shown}
@@ -59,7 +59,7 @@ module _ {D K : Type 0} {g : Ghosts D} (honest : K → Type 0) (outcome : K → 
       }
 
   -- a touch is settled
-  pub reached-settled : (touch : Touch) (result : Result Reply SettleFault) (old new : Client D g)
+  pub reached-settled : (touch : Touch) (result : Result Reply NoReplyFault) (old new : Client D g)
       (old_k new_k : KeeperState K) (from : IsReached honest outcome alone opened number first old old_k)
       → IsSettling honest outcome alone opened number from.last touch result new new_k
       → IsReached honest outcome alone opened number first new new_k

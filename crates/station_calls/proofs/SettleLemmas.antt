@@ -26,8 +26,8 @@ use Rattle.gate_law.specs.WholeAgreement.{IsRun}
 use Rattle.gate_law.proofs.ViewLemmas.{with-own}
 use Rattle.gate_law.proofs.WholeLemmas.{run-then}
 use Rattle.gate_law.specs.Shown as gates
-use Rattle.gate_law.specs.declared.round.SettleFault.{SettleFault}
-use Rattle.gate_law.specs.declared.round.SettleFault.TheVariants.{Unsent, Unheard}
+use Rattle.gate_law.specs.declared.round.NoReplyFault.{NoReplyFault}
+use Rattle.gate_law.specs.declared.round.NoReplyFault.TheVariants.{Unsent, Unheard}
 use Rattle.gate_law.specs.ClientRuns.{gone_in, IsClientRun}
 use Rattle.gate_law.proofs.ClientRunLemmas.{idle-run, heard-run, hears-run}
 use Rattle.station_calls.specs.Shown as stations
@@ -52,7 +52,7 @@ one-reply a b e = cc
 
 -- what was told unheard for this fault was heard as it
 pub one-refused : (fault : HearFault) (code : ℕ)
-    → ◌≡◌ {A = Result Reply SettleFault} (Err (Unheard fault)) (Err (Unheard (Refused code)))
+    → ◌≡◌ {A = Result Reply NoReplyFault} (Err (Unheard fault)) (Err (Unheard (Refused code)))
     → ◌≡◌ {A = Result Reply HearFault} (Err fault) (Err (Refused code))
 one-refused fault code is = let same : fault ≡ Refused code = cc in ap Err same
 
@@ -147,7 +147,7 @@ module _ {D K : Type 0} {g : Ghosts D} (honest : K → Type 0) (outcome : K → 
       )
 
   -- and then something was heard, or nothing
-  over : (w : Whole) → IsHalfway w → (told : List Judged) (refused : List Refusal) (r : Result Reply SettleFault)
+  over : (w : Whole) → IsHalfway w → (told : List Judged) (refused : List Refusal) (r : Result Reply NoReplyFault)
       → told ≡ told_by touch r → refused ≡ refused_by touch r
       → IsClientRun alone opened.header.cards number w new [] told refused
       → IsSettling honest outcome alone opened number whole touch r new new_k
@@ -168,7 +168,7 @@ module _ {D K : Type 0} {g : Ghosts D} (honest : K → Type 0) (outcome : K → 
       }
 
   -- nothing was heard
-  unheard : (w : Whole) → IsHalfway w → (fault : SettleFault) → refused_by touch (Err fault) ≡ [] → new ≡ old
+  unheard : (w : Whole) → IsHalfway w → (fault : NoReplyFault) → refused_by touch (Err fault) ≡ [] → new ≡ old
       → IsSettling honest outcome alone opened number whole touch (Err fault) new new_k
   unheard w way fault none same =
       over w way [] [] (Err fault) refl (sym none)
@@ -177,9 +177,9 @@ module _ {D K : Type 0} {g : Ghosts D} (honest : K → Type 0) (outcome : K → 
 
   -- whatever was heard
   finish : (w : Whole) → IsHalfway w → (answer : Answer) → Contains w.answers answer
-      → ((asked : List Touch) → HasAsked asked old → HasAsked asked new) → (r : Result Reply SettleFault)
+      → ((asked : List Touch) → HasAsked asked old → HasAsked asked new) → (r : Result Reply NoReplyFault)
       → ((reply : Reply) → r ≡ Ok reply → (new ≡ answered old) × (answer ≡ answers.Reply touch.gate touch.number reply))
-      → ((fault : SettleFault) → r ≡ Err fault → new ≡ old)
+      → ((fault : NoReplyFault) → r ≡ Err fault → new ≡ old)
       → ((code : ℕ) → r ≡ Err (Unheard (Refused code)) → answer ≡ answers.Fault code touch.gate touch.number)
       → IsSettling honest outcome alone opened number whole touch r new new_k
   finish w way answer there asked (Ok reply) ok kept refused =
@@ -200,14 +200,14 @@ module _ {D K : Type 0} {g : Ghosts D} (honest : K → Type 0) (outcome : K → 
       (λ fault is. kept (Unheard (Refused code)) refl) (subst (Contains w.answers) (refused code refl) there))
 
   -- it was sent, committed, and heard or not
-  pub settles : (result : Result Reply SettleFault) (answer : Answer)
+  pub settles : (result : Result Reply NoReplyFault) (answer : Answer)
       → IsClientRun alone opened.header.cards number whole old (touch ∷ []) [] []
       → ((w : Whole) → stations.IsShownBy honest outcome opened old_k w → Line w.sent touch
       → IsCommitRun alone honest outcome opened w answer new_k)
       → ((asked : List Touch) → HasAsked asked old → HasAsked asked new)
       → ((reply : Reply) → result ≡ Ok reply
       → (new ≡ answered old) × (answer ≡ answers.Reply touch.gate touch.number reply))
-      → ((fault : SettleFault) → result ≡ Err fault → new ≡ old)
+      → ((fault : NoReplyFault) → result ≡ Err fault → new ≡ old)
       → ((code : ℕ) → result ≡ Err (Unheard (Refused code)) → answer ≡ answers.Fault code touch.gate touch.number)
       → IsSettling honest outcome alone opened number whole touch result new new_k
   settles result answer sent commit asked ok kept refused =

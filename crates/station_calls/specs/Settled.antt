@@ -10,19 +10,19 @@ use Rattle.tap_office.specs.Name.{Opened}
 use Rattle.tap_office.specs.Keeper.{KeeperState}
 use Rattle.gate_law.specs.Whole.{Whole, Refusal}
 use Rattle.gate_law.specs.WholeAgreement.{IsRun}
-use Rattle.gate_law.specs.declared.round.SettleFault.{SettleFault}
-use Rattle.gate_law.specs.declared.round.SettleFault.TheVariants.{Unsent, Unheard}
+use Rattle.gate_law.specs.declared.round.NoReplyFault.{NoReplyFault}
+use Rattle.gate_law.specs.declared.round.NoReplyFault.TheVariants.{Unsent, Unheard}
 use Rattle.gate_law.specs.ClientRuns.{told_of, refused_of}
 use Rattle.gate_law.specs.Shown as gates
 use Rattle.station_calls.specs.Shown as stations
 
 -- what the gate's caller is told: the touch with its reply, where there is one
-abbrev pub told_by : Touch → Result Reply SettleFault → List Judged
+abbrev pub told_by : Touch → Result Reply NoReplyFault → List Judged
 told_by touch (Ok reply) = told_of touch (Ok reply)
 told_by touch (Err fault) = []
 
 -- and the touch with the fault that was heard
-abbrev pub refused_by : Touch → Result Reply SettleFault → List Refusal
+abbrev pub refused_by : Touch → Result Reply NoReplyFault → List Refusal
 refused_by touch (Ok reply) = []
 refused_by touch (Err Unsent) = []
 refused_by touch (Err (Unheard fault)) = refused_of touch (Err fault)
@@ -31,7 +31,7 @@ refused_by touch (Err (Unheard fault)) = refused_of touch (Err fault)
 -- this gate was told what came of the touch
 pub record IsSettling {D K : Type 0} {g : Ghosts D} (honest : K → Type 0)
     (outcome : K → List ℕ → Type 0) (alone : ℕ → Bool) (opened : Opened) (number : ℕ)
-    (whole : Whole) (touch : Touch) (result : Result Reply SettleFault) (client : Client D g)
+    (whole : Whole) (touch : Touch) (result : Result Reply NoReplyFault) (client : Client D g)
     (keeper : KeeperState K) : Type 0 where
   pub last : Whole
   pub between : List Whole

@@ -14,7 +14,7 @@ use crate::opening::{keeper_in_steps, read_in_steps};
 use crate::settling::settle_in_steps;
 use fare_schedule::Schedule;
 use gate_client::Client;
-use gate_law::{SettleFault, ask_in_steps, crash_in_steps};
+use gate_law::{NoReplyFault, ask_in_steps, crash_in_steps};
 use oyster_account::{Act, Reply};
 use reply_book::NameHashing;
 use std::alloc::Global;
@@ -44,7 +44,7 @@ pub struct Round {
     /// The station, opened again.
     pub opening: Opening<MemoryDisk>,
     /// What the gate heard before its power failed, and after it.
-    pub heard: [Result<Reply, SettleFault>; 2],
+    pub heard: [Result<Reply, NoReplyFault>; 2],
 }
 
 /// The station's power fails between two calls, and what the crash leaves of its disk, by this
@@ -164,7 +164,7 @@ fn settled<N: Named, R: Wait>(
     client: &mut Client<MemoryDisk>,
     keeper: &mut Keeper<N, MemoryDisk>,
     seats: &mut Vec<Seat<N>>,
-) -> Option<Result<Reply, SettleFault>>
+) -> Option<Result<Reply, NoReplyFault>>
     ensures { (alone : ℕ → Bool) (number : ℕ) (first : Whole)
         → IsReached ⟦<MemoryDisk as Disk>⟧.honest ⟦<MemoryDisk as Disk>⟧.outcome alone N.opened
         number first client.old keeper.old

@@ -3,8 +3,7 @@ ghost use Rattle.std.specs.Prelude.{◌≡◌, ℕ, Bool, List, [], Some, IsSome
 ghost use Rattle.oyster_account.specs.declared.touch.Touch.{Touch};
 ghost use Rattle.oyster_account.specs.Touch.{Fits};
 ghost use Rattle.gate_session.specs.declared.answer.Answer.TheVariants as answers;
-ghost use Rattle.gate_session.specs.Answers.{AnswerFits, ReplyFits, answer_frame};
-ghost use Rattle.text_io.specs.Writing.{IsBeginning};
+ghost use Rattle.gate_session.specs.Answers.{AnswerFits};
 ghost use Rattle.gate_client.specs.Client.{HasAsked, answered, waits_of};
 ghost use Rattle.gate_law.specs.Whole.{Whole};
 ghost use Rattle.gate_law.specs.Shown as gates;
@@ -14,7 +13,7 @@ ghost use Rattle.station_calls.specs.Settled.{IsSettling};
 
 use crate::commit::commit_in_steps;
 use gate_client::{Client, HearFault};
-use gate_law::{SettleFault, send_in_steps};
+use gate_law::{NoReplyFault, fitting, send_in_steps};
 use gate_session::{ANSWER_SIZE, Answer};
 use oyster_account::{Reply, Touch};
 use std::alloc::Global;
@@ -35,7 +34,7 @@ pub fn settle_in_steps<N: Named, D: Disk, K: Disk, R: Wait>(
     client: &mut Client<D>,
     keeper: &mut Keeper<N, K>,
     seat: &mut Seat<N>,
-) -> Result<Reply, SettleFault>
+) -> Result<Reply, NoReplyFault>
     requires { IsSome (waits_of client.old) }
     ensures { (alone : ℕ → Bool) (number : ℕ) (whole : Whole) (touch : Touch)
         → waits_of client.old ≡ Some touch
@@ -49,12 +48,12 @@ pub fn settle_in_steps<N: Named, D: Disk, K: Disk, R: Wait>(
     };
     let mut frame = Vec::new(alloc);
     let Ok(()) = send_in_steps(client, &mut frame) else {
-        return Err(SettleFault::Unsent);
+        return Err(NoReplyFault::Unsent);
     };
     let answer = answer_for(&touch, commit_in_steps(rt, keeper, seat, touch, None));
     match heard(client, &answer) {
         Ok(reply) => Ok(reply),
-        Err(fault) => Err(SettleFault::Unheard(fault)),
+        Err(fault) => Err(NoReplyFault::Unheard(fault)),
     }
 }
 
@@ -79,14 +78,6 @@ fn answer_for<N: Named>(touch: &Touch, committed: Result<Receipt<N>, SubmitFault
     fitting(answer)
 }
 
-/// The answer, whose numbers are of their types.
-fn fitting(answer: Answer) -> Answer
-    ensures same { result ≡ answer }
-    ensures fits { AnswerFits result }
-{
-    answer
-}
-
 /// What a client hears of the frame of this answer: a reply only where it is that, and a fault only
 /// where it is that.
 fn heard<D: Disk>(client: &mut Client<D>, answer: &Answer) -> Result<Reply, HearFault>
@@ -103,23 +94,5 @@ fn heard<D: Disk>(client: &mut Client<D>, answer: &Answer) -> Result<Reply, Hear
 {
     let mut frame = [0; ANSWER_SIZE];
     let size = answer.write_into(&mut frame);
-    heard_in(client, &frame[..size])
-}
-
-/// What a client hears of these bytes.
-fn heard_in<D: Disk>(client: &mut Client<D>, bytes: &[u8]) -> Result<Reply, HearFault>
-    requires { IsSome (waits_of client.old) }
-    ensures reply { (touch : Touch) → waits_of client.old ≡ Some touch
-        → IfOk result (λ reply. IsBeginning
-        (answer_frame (answers.Reply touch.gate touch.number reply)) bytes.now) }
-    ensures refused { (touch : Touch) (code : ℕ) → waits_of client.old ≡ Some touch
-        → result ≡ Err (HearFault.Refused code) → IsBeginning
-        (answer_frame (answers.Fault code touch.gate touch.number)) bytes.now }
-    ensures fits { IfOk result ReplyFits }
-    ensures answered { OnOk result (client.new ≡ answered client.old) }
-    ensures asked { (asked : List Touch) → HasAsked asked client.old → HasAsked asked client.new }
-    ensures kept { OnErr result (client.new ≡ client.old) }
-{
-    let mut reader = bytes;
-    client.hear(&mut reader)
+    client.hear_in(&frame[..size])
 }

@@ -3,7 +3,7 @@ use Rattle.std.proofs.Common.{◌≡◌, ℕ, Bool, true, false, List, Option, S
 use Rattle.std.specs.Str.{is_utf8}
 use Rattle.toml.specs.Data.{Members}
 use Rattle.toml.specs.Parse.{parse_document}
-use Rattle.fare_table.specs.First.{first}
+use Rattle.toml_reading.specs.First.{first}
 use Rattle.fare_table.specs.Table.{IsTableOf}
 use Rattle.fare_table.specs.Faults.{faults, first_fault, first_fault_of, fault_in}
 use Rattle.fare_table.specs.declared.fares.Fares.{Fares}

@@ -7,7 +7,7 @@ use Rattle.hex.specs.Hex.{encode_lower}
 use Rattle.sha2.specs.Sha256.{sha256}
 use Rattle.toml.specs.Data.{Members}
 use Rattle.toml.specs.Parse.{parse_document}
-use Rattle.fare_table.specs.First.{first}
+use Rattle.toml_reading.specs.First.{first}
 use Rattle.fare_table.specs.Tree.{rows_at}
 use Rattle.fare_table.specs.Content.{stations_of, singles_of, caps_of}
 use Rattle.fare_table.specs.Faults.{faults}

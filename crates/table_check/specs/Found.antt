@@ -5,8 +5,8 @@ use Rattle.std.specs.Prelude.{codes, Option, Some, None, if◌then◌else◌}
 use Rattle.std.specs.Fmt.{decimal, signed_decimal}
 use Rattle.toml.specs.Data.{Data, string, integer, float, boolean, datetime, array, table, Members}
 use Rattle.toml.specs.Data.{get_member}
+use Rattle.toml_reading.specs.Tree.{elements_of, items_at}
 use Rattle.table_check.specs.Place.{line_behind}
-use Rattle.table_check.specs.Survey.{elements_of, rows_at}
 use Rattle.table_check.specs.declared.places.Wanted.{Wanted}
 use Rattle.table_check.specs.declared.places.Wanted.TheVariants.{Key, Row, Cell}
 
@@ -22,8 +22,8 @@ member_in key _ = None
 -- what a table has where this is looked for
 abbrev pub value_in : Wanted → Members → Option Data
 value_in (Key key) tree = get_member key.now tree
-value_in (Row list row) tree = row_at row (rows_at list.now tree)
-value_in (Cell list row key) tree = member_in key.now (row_at row (rows_at list.now tree))
+value_in (Row list row) tree = row_at row (items_at list.now tree)
+value_in (Cell list row key) tree = member_in key.now (row_at row (items_at list.now tree))
 
 -- the number is that of a line of these bytes
 abbrev pub IsLineOf : List ℕ → ℕ → Type 0

@@ -1,27 +1,14 @@
 -- What a survey counts, and of which bytes there is one (COMMANDS.md, "check"; this project's
 -- choice).
-use Rattle.std.specs.Prelude.{◌≡◌, ℕ, List, [], ◌∷◌, length, codes, Option, Some, None}
+use Rattle.std.specs.Prelude.{◌≡◌, ℕ, List, length, codes, Option, Some, None}
 use Rattle.std.specs.Prelude.{if◌then◌else◌}
 use Rattle.std.specs.Str.{is_utf8}
-use Rattle.toml.specs.Data.{Data, array, Items, no_items, item, Members, get_member}
+use Rattle.toml.specs.Data.{Members}
 use Rattle.toml.specs.Parse.{parse_document}
+use Rattle.toml_reading.specs.Tree.{items_at}
 use Rattle.table_check.specs.declared.survey.Survey.{Survey}
 use Rattle.table_check.specs.declared.document.SurveyFault.{SurveyFault}
 use Rattle.table_check.specs.declared.document.SurveyFault.TheVariants.{Memory, Misread}
-
--- the items of a list
-abbrev pub elements_of : Items → List Data
-elements_of no_items = []
-elements_of (item d ds) = d ∷ elements_of ds
-
--- the items of a value, none where it is no list
-abbrev pub items_in : Option Data → List Data
-items_in (Some (array ds)) = elements_of ds
-items_in _ = []
-
--- the rows of the list at a key, none where there is no list
-abbrev pub rows_at : List ℕ → Members → List Data
-rows_at key tree = items_in (get_member key tree)
 
 -- the document that bytes are: none where they are no UTF-8, or no TOML
 abbrev pub document_in : List ℕ → Option Members
@@ -29,9 +16,9 @@ document_in bytes = if is_utf8 bytes then parse_document bytes else None
 
 -- the survey counts the rows of a tree's lists that may be left out
 pub record CountsRows (tree : Members) (survey : Survey) : Type 0 where
-  pub pairs : survey.pairs ≡ length (rows_at (codes "pair") tree)
-  pub interchanges : survey.interchanges ≡ length (rows_at (codes "interchange") tree)
-  pub holidays : survey.holidays ≡ length (rows_at (codes "holidays") tree)
+  pub pairs : survey.pairs ≡ length (items_at (codes "pair") tree)
+  pub interchanges : survey.interchanges ≡ length (items_at (codes "interchange") tree)
+  pub holidays : survey.holidays ≡ length (items_at (codes "holidays") tree)
 
 -- the bytes are a document, and the survey counts its rows
 abbrev pub IsSurveyOf : List ℕ → Survey → Type 0

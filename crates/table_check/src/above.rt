@@ -1,10 +1,11 @@
 //! The price that is above its maximum.
 
 use crate::places::Wanted;
-use crate::tree::{rows_at, whole_at, whole_in};
+use crate::tree::{whole_at, whole_in};
 use fare_table::Key;
 use std::fmt;
 use toml::Table;
+use toml_reading::items_at;
 
 /// The lists whose rows have prices, in the order in which they are looked at, and the key of each
 /// price with that of its maximum.
@@ -64,7 +65,7 @@ pub fn first_above(tree: &Table) -> Option<Above> {
 
 /// The first price above its maximum in a list.
 fn first_in(tree: &Table, list: &'static str, prices: [(Key, Key); 2]) -> Option<Above> {
-    for (place, row) in rows_at(tree, list).iter().enumerate() {
+    for (place, row) in items_at(tree, list).iter().enumerate() {
         for (key, maximum) in prices {
             if let (Some(price), Some(most)) = (whole_in(row, key), whole_at(tree, maximum)) {
                 if price > most {

@@ -9,7 +9,7 @@ ghost use Rattle.console.specs.declared.fault.TrialFault.TheVariants.{Run};
 
 use crate::changes::changes_of;
 use crate::document::SurveyFault;
-use crate::journey::write_fare;
+use crate::journey::write_lines;
 use crate::reading::Said;
 use crate::sheet::Sheet;
 use crate::tables::table_of;
@@ -55,7 +55,7 @@ pub fn tell_changes<F: WholeFiles, W: Write>(
     let second = table_of(alloc, new, &after)?;
     let places = places_text(alloc, &before, &after)?;
     let compared = compare(alloc, first, second, places)?;
-    write_fare(writer, &compared.text)?;
+    write_lines(writer, &compared.text)?;
     Ok(ExitCode::from(revision_status(compared.fault)))
 }
 

@@ -41,12 +41,12 @@ pub fn tell_fare<F: WholeFiles, W: Write>(
 {
     let bytes = files.bytes_in(alloc, path)?;
     let text = fare_text(alloc, path, &bytes, journey)?;
-    write_fare(writer, text.as_str())?;
+    write_lines(writer, text.as_str())?;
     Ok(ExitCode::SUCCESS)
 }
 
-/// Writes a text. The fault is that of the writing.
-pub(crate) fn write_fare<W: Write>(writer: &mut W, text: &str) -> Result<(), RunFault>
+/// Writes the lines of a command. The fault is that of the writing.
+pub(crate) fn write_lines<W: Write>(writer: &mut W, text: &str) -> Result<(), RunFault>
     ensures ok { OnOk result (Appends (W.contents writer.old) (W.contents writer.new) text.now) }
     ensures fault { IfErr result (λ fault. fault ≡ WriteFailed) }
 {

@@ -1,9 +1,10 @@
 //! What is told of a fare table: its report or its first fault, what a journey costs by it, and
 //! what there is to note of its text.
 //!
-//! `check_table` carries the report, over any reader and writer; `cost_of` says what a journey
-//! costs by a table. `look_over` has the notes, and `changes_of` what one table says otherwise than
-//! another. A text that is looked over needn't be a valid table.
+//! `report_table` carries the report of a file's bytes, which `check_file` writes with the notes of
+//! `look_over`; `check_table` is the same over any reader and writer. `cost_of` says what a journey
+//! costs by a table, and `changes_of` what one table says otherwise than another. A text that is
+//! looked over needn't be a valid table.
 #![tactic(auto)]
 
 mod above;

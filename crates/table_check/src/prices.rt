@@ -1,11 +1,12 @@
 //! Prices that are valid and may not be meant: pounds for pence, and caps below a fare that they
 //! cover.
 
-use crate::tree::{rows_at, text_in, whole_at, whole_in};
+use crate::tree::{text_in, whole_at, whole_in};
 use fare_table::Key;
 use std::alloc::{AllocError, Global};
 use std::fmt;
 use toml::{Table, Value};
+use toml_reading::items_at;
 
 /// A price that is lower is rather one in pounds.
 const LEAST_PENCE: i64 = 10;
@@ -57,14 +58,14 @@ pub fn are_pounds(tree: &Table) -> bool {
 
 /// Whether no row of a list has a price of ten pence at a key.
 fn are_low(tree: &Table, list: Key, key: Key) -> bool {
-    rows_at(tree, list.text()).iter().all(|row| whole_in(row, key).is_none_or(|price| price
+    items_at(tree, list.text()).iter().all(|row| whole_in(row, key).is_none_or(|price| price
         < LEAST_PENCE))
 }
 
 /// The caps that are below a single fare which they cover, row by row.
 pub fn low_caps(alloc: Global, tree: &Table) -> Result<Vec<LowCap>, AllocError> {
     let mut low = Vec::new(alloc);
-    for (place, cap) in rows_at(tree, Key::Cap.text()).iter().enumerate() {
+    for (place, cap) in items_at(tree, Key::Cap.text()).iter().enumerate() {
         if let Some(found) = low_cap(tree, place.saturating_add(1), cap) {
             low.push(found)?;
         }
@@ -75,7 +76,7 @@ pub fn low_caps(alloc: Global, tree: &Table) -> Result<Vec<LowCap>, AllocError> 
 /// The cap in this row, where it is below a single fare which it covers.
 fn low_cap(tree: &Table, row: usize, cap: &Value) -> Option<LowCap> {
     let price = whole_in(cap, Key::CapPrice)?;
-    for (place, single) in rows_at(tree, Key::Single.text()).iter().enumerate() {
+    for (place, single) in items_at(tree, Key::Single.text()).iter().enumerate() {
         if let Some(fare) = covered_fare(cap, single) {
             if price < fare {
                 let single = place.saturating_add(1);

@@ -2,10 +2,11 @@
 
 use crate::found::Found;
 use crate::rows::naming_keys;
-use crate::tree::{member_in, rows_at, text_in, value_at, whole_in};
+use crate::tree::{member_in, text_in, whole_in};
 use fare_table::{Key, LISTS, TOP_KEYS};
 use std::alloc::{AllocError, Global};
 use toml::{Table, Value};
+use toml_reading::{items_at, value_at};
 
 /// What a table says at one place.
 #[derive(Debug, PartialEq, Eq, Drop)]
@@ -28,12 +29,12 @@ pub fn reading_of(alloc: Global, tree: &Table) -> Result<Vec<Said>, AllocError> 
     }
     for list in LISTS {
         if list != Key::Holidays {
-            for row in rows_at(tree, list.text()) {
+            for row in items_at(tree, list.text()) {
                 said.push(row_said(alloc, list, row)?)?;
             }
         }
     }
-    for day in rows_at(tree, Key::Holidays.text()) {
+    for day in items_at(tree, Key::Holidays.text()) {
         said.push(day_said(alloc, day)?)?;
     }
     Ok(said)

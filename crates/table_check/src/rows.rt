@@ -1,9 +1,10 @@
 //! Rows of a table by what they name: stations, zones, and what others name as well.
 
 use crate::places::Wanted;
-use crate::tree::{row_at, rows_at, text_in, whole_in};
+use crate::tree::{row_at, text_in, whole_in};
 use fare_table::Key;
 use toml::{Table, Value};
+use toml_reading::items_at;
 
 /// The lists whose rows name two stations.
 const OF_TWO: [Key; 2] = [Key::Pair, Key::Interchange];
@@ -25,7 +26,7 @@ pub fn naming_keys(list: Key) -> &'static [Key] {
 /// it.
 pub fn naming(tree: &Table, station: i64) -> Option<Wanted> {
     for list in OF_TWO {
-        for (place, row) in rows_at(tree, list.text()).iter().enumerate() {
+        for (place, row) in items_at(tree, list.text()).iter().enumerate() {
             for key in naming_keys(list) {
                 if whole_in(row, *key) == Some(station) {
                     let row = place.saturating_add(1);
@@ -40,7 +41,7 @@ pub fn naming(tree: &Table, station: i64) -> Option<Wanted> {
 /// The first row of a list, from 1, that names what the row of this number names.
 pub fn row_before(tree: &Table, list: Key, row: usize) -> Option<usize> {
     let later = row_at(tree, list.text(), row)?;
-    for (place, earlier) in rows_at(tree, list.text()).iter().enumerate() {
+    for (place, earlier) in items_at(tree, list.text()).iter().enumerate() {
         let number = place.saturating_add(1);
         if number < row && name_the_same(list, earlier, later) {
             return Some(number);
@@ -51,7 +52,7 @@ pub fn row_before(tree: &Table, list: Key, row: usize) -> Option<usize> {
 
 /// Whether a pair names these two stations, in either order.
 pub fn has_pair(tree: &Table, from: i64, to: i64) -> bool {
-    rows_at(tree, Key::Pair.text()).iter().any(|row| {
+    items_at(tree, Key::Pair.text()).iter().any(|row| {
         let (one, other) = (whole_in(row, Key::PairFrom), whole_in(row, Key::PairTo));
         (one == Some(from) && other == Some(to)) || (one == Some(to) && other == Some(from))
     })

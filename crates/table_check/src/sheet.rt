@@ -13,10 +13,11 @@ use crate::places::{Wanted, place_of};
 use crate::reading::{Said, reading_of};
 use crate::rows::{has_pair, naming, row_before};
 use crate::survey::{Survey, survey_of};
-use crate::tree::{member_in, row_at, value_at};
+use crate::tree::{member_in, row_at};
 use fare_table::Key;
 use std::alloc::{AllocError, Global};
 use toml::{Table, Value};
+use toml_reading::value_at;
 
 /// A text that is a TOML document, to be asked what stands where. It needn't be a valid fare table.
 pub struct Sheet<'a> {

@@ -1,47 +1,19 @@
 //! What a key of a table holds, in the tree that a TOML text stands for.
 
 ghost use Rattle.std.specs.Prelude.{◌≡◌, Some, length, map, option_map, slice_get};
-ghost use Rattle.toml.specs.Data.{get_member};
 ghost use Rattle.toml.specs.View.{view, table_view};
-ghost use Rattle.table_check.specs.Survey.{items_in, rows_at};
+ghost use Rattle.toml_reading.specs.Tree.{items_at};
 ghost use Rattle.table_check.specs.Found.{member_in, row_at};
 
 use fare_table::Key;
 use toml::{Table, Value};
-
-/// The value at a key of a table.
-pub fn value_at<'a>(table: &'a Table, key: &str) -> Option<&'a Value>
-    ensures { option_map (λ value. view value.now) result
-        ≡ get_member key.now (table_view table.now) }
-{
-    table.get(key)
-}
-
-/// The rows of the list at a key, none where there is no list.
-pub fn rows_at<'a>(table: &'a Table, key: &str) -> &'a [Value]
-    ensures { map view result.now ≡ rows_at key.now (table_view table.now) }
-{
-    match value_at(table, key) {
-        Some(value) => items_in(value),
-        None => &[],
-    }
-}
-
-/// The items of a value, none where it is no list.
-fn items_in(value: &Value) -> &[Value]
-    ensures { map view result.now ≡ items_in (Some (view value.now)) }
-{
-    match value {
-        Value::Array(items) => items.as_slice(),
-        _ => &[],
-    }
-}
+use toml_reading::{items_at, value_at};
 
 /// How many rows the list at a key has, 0 where there is no list.
 pub fn count_at(table: &Table, key: &str) -> usize
-    ensures { result ≡ length (rows_at key.now (table_view table.now)) }
+    ensures { result ≡ length (items_at key.now (table_view table.now)) }
 {
-    rows_at(table, key).len()
+    items_at(table, key).len()
 }
 
 /// The whole number at a key, where there is one.
@@ -62,10 +34,7 @@ pub fn whole_in(row: &Value, key: Key) -> Option<i64> {
 
 /// The text at a key of a row, and the empty one where there is none.
 pub fn text_in<'a>(row: &'a Value, key: Key) -> &'a str {
-    match member_in(row, key.text()) {
-        Some(Value::String(text)) => text.as_str(),
-        _ => "",
-    }
+    toml_reading::text_in(member_in(row, key.text()))
 }
 
 /// The value at a key of a row, where the row is a table.
@@ -82,12 +51,12 @@ pub fn member_in<'a>(row: &'a Value, key: &str) -> Option<&'a Value>
 /// The row of a list that has this number, from 1.
 pub fn row_at<'a>(table: &'a Table, list: &str, row: usize) -> Option<&'a Value>
     ensures { option_map (λ value. view value.now) result
-        ≡ row_at row (rows_at list.now (table_view table.now)) }
+        ≡ row_at row (items_at list.now (table_view table.now)) }
 {
     if row == 0 {
         None
     } else {
-        item_at(rows_at(table, list), row - 1)
+        item_at(items_at(table, list), row - 1)
     }
 }
 

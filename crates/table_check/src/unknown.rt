@@ -1,11 +1,11 @@
 //! Keys that aren't known, and those that were meant by them.
 
-use crate::tree::rows_at;
 use fare_table::{Key, LISTS, TOP_KEYS};
 use std::alloc::{AllocError, Global};
 use std::fmt;
 use strsim::osa_distance;
 use toml::{Table, Value};
+use toml_reading::items_at;
 
 /// How many letters a key has at least of which two may be wrong. Of a shorter one it is one.
 const LONG: usize = 7;
@@ -59,7 +59,7 @@ pub fn unknown_keys(alloc: Global, tree: &Table) -> Result<Vec<Unknown>, AllocEr
     for list in LISTS {
         // A holiday has no keys.
         if !list.keys().is_empty() {
-            look_at_rows(alloc, list, rows_at(tree, list.text()), &mut unknown)?;
+            look_at_rows(alloc, list, items_at(tree, list.text()), &mut unknown)?;
         }
     }
     Ok(unknown)

@@ -14,12 +14,7 @@ use Rattle.reply_book.specs.Tables.{Tables, is_known}
 use Rattle.reply_book.proofs.CallerLemmas.{legal-none}
 use Rattle.tap_office.specs.Name.{Opened, nothing_opened}
 use Rattle.tap_office.specs.Room.{room_after, unless_repeat, room_in, IsRoomFor}
-use Rattle.tap_office.specs.declared.opening.TheConstants.{SEAT_LIMIT}
 use Rattle.tap_office.specs.declared.sync_times.TheConstants.{LONG_SYNC, ROW}
-
--- an office has at most 64 seats
-most_seats : SEAT_LIMIT ≡ 64
-most_seats = refl
 
 -- a sync is long from 50 microseconds on, and four long commits in a row make commits take turns
 long_sync : LONG_SYNC ≡ 50_000

@@ -4,9 +4,10 @@ use Rattle.std.specs.Prelude.{◌≡◌, ◌⊎◌, ℕ, ℤ, ◌+◌, ◌≤◌
 use Rattle.std.specs.Prelude.{Result, Ok, Err, Option, None, slice_index_or}
 use Rattle.std.specs.List.{All}
 use Rattle.logbook.specs.Pages.{Book as Logbook}
+use Rattle.station_limits.specs.declared.limits.TheConstants.{CARDS_LIMIT, HISTORY_LIMIT}
+use Rattle.station_limits.specs.declared.limits.TheConstants.{LINES_LIMIT}
 use Rattle.fare_table.specs.Fares.{digest_of}
 use Rattle.oyster_account.specs.declared.touch.Touch.{Touch}
-use Rattle.oyster_account.specs.declared.card.TheConstants.{HISTORY_LIMIT}
 use Rattle.tap_disk.specs.declared.disk.Disk.{Ghosts}
 use Rattle.tap_journal.specs.declared.journal.Journal.{Journal}
 use Rattle.tap_journal.specs.declared.fault.JournalFault.{JournalFault}
@@ -23,7 +24,6 @@ use Rattle.tap_journal.specs.Found.{found_in}
 use Rattle.tap_journal.specs.Crash.{Stands, capacity_of, is_stopped}
 use Rattle.reply_book.specs.declared.entry.Entry.{Entry}
 use Rattle.reply_book.specs.declared.book.Book.{Book}
-use Rattle.reply_book.specs.declared.book.TheConstants.{CARD_LIMIT}
 use Rattle.reply_book.specs.Tables.{Tables, AreKnown}
 use Rattle.reply_book.specs.declared.fault.ReplayFault.{ReplayFault}
 use Rattle.reply_book.specs.declared.fault.ReplayFault.TheVariants as faults
@@ -33,7 +33,6 @@ use Rattle.reply_book.specs.Legal.{touches_of, history_of, IsLegal}
 use Rattle.tap_desk.specs.declared.commit_log.CommitLog.{CommitLog}
 use Rattle.tap_desk.specs.CommitLog.{logged, table_of}
 use Rattle.tap_desk.specs.Desks.{DeskState}
-use Rattle.tap_office.specs.declared.opening.TheConstants.{SEAT_LIMIT}
 use Rattle.tap_office.specs.Name.{Opened}
 use Rattle.tap_office.specs.Seat.{SeatState, fresh_seat}
 
@@ -75,9 +74,9 @@ disk_read (Err fault) = fault.disk
 -- the numbers of cards and of seats are in their limits
 pub record AreInLimits (cards seats : ℕ) : Type 0 where
   pub some_cards : 1 ≤ cards
-  pub card_limit : cards ≤ CARD_LIMIT
+  pub card_limit : cards ≤ CARDS_LIMIT
   pub some_seats : 1 ≤ seats
-  pub seat_limit : seats ≤ SEAT_LIMIT
+  pub seat_limit : seats ≤ LINES_LIMIT
 
 -- the opening is by these tables, of which the journal's header names the first, with so many cards
 -- and seats, and its history is the legal one of the touches that were found, which name no other
@@ -198,6 +197,6 @@ module _ {D : Type 0} {g : Ghosts D} where
     pub stands : Stands (header_by (capacity_of journal) (cards_of book) (tables_of book))
         (touches_of (entries_of book)) journal
     pub some_seats : 1 ≤ seats
-    pub seat_limit : seats ≤ SEAT_LIMIT
+    pub seat_limit : seats ≤ LINES_LIMIT
     pub receipts : receipt_parts ≡ seats
     pub numbers : number_parts ≡ seats

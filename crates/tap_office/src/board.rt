@@ -1,12 +1,12 @@
 //! Who waits to commit: the turns of an office, and the touches of those that have one.
-use crate::opening::SEAT_LIMIT;
 use crate::sync_times::SyncTimes;
 use oyster_account::Touch;
+use station_limits::LINES_LIMIT;
 use std::alloc::Global;
 use std::sync::{Condvar, Mutex, Wait};
 
 /// The touches of how many turns are kept: one for each seat.
-const PLACES: usize = SEAT_LIMIT as usize;
+const PLACES: usize = LINES_LIMIT as usize;
 
 /// Which turn it is, and the touches of those that come. Turns are counted from 0 on.
 #[derive(Drop)]

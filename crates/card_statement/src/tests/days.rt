@@ -1,7 +1,7 @@
 //! The rows of fare days.
 
 ghost use Rattle.std.specs.Prelude.{◌≤◌, length};
-ghost use Rattle.oyster_account.specs.declared.card.TheConstants.{HISTORY_LIMIT};
+ghost use Rattle.station_limits.specs.declared.limits.TheConstants.{HISTORY_LIMIT};
 
 use super::{MONDAY, TRIES, assert_same, passage};
 use crate::statement::{Day, Incomplete, Reason};

@@ -1,9 +1,9 @@
 //! The commands that only read a journal.
 
 use super::{Described, Parameter, Rule, Takes};
-use crate::arguments::{CAPACITY_LIMIT, CARDS_LIMIT};
 use crate::history::FORMATS;
 use crate::statement::STATEMENT_FORMATS;
+use station_limits::{CARDS_LIMIT, HISTORY_LIMIT};
 
 /// What `verify` does.
 const VERIFY_ABOUT: &str = "Checks a journal, and prints what it contains or its first fault";
@@ -199,7 +199,7 @@ const EXPECT_CARDS: Parameter = Parameter {
 /// The capacity that a journal has to have.
 const EXPECT_CAPACITY: Parameter = Parameter {
     name: "expect-capacity",
-    takes: Takes::Number("N", CAPACITY_LIMIT),
+    takes: Takes::Number("N", HISTORY_LIMIT),
     rule: Rule::Optional,
     help: "Refuses a journal with another capacity; N from 1 to 1000000",
 };

@@ -1,9 +1,8 @@
 //! The commands at which gates are answered, and those for their tables and journals.
 
 use super::{Described, Parameter, Rule, Takes};
-use crate::arguments::{
-    CAPACITY_LIMIT, CARDS_LIMIT, CONNECTIONS_LIMIT, IDLE_LIMIT, LINES_LIMIT, REPORT_LIMIT,
-};
+use crate::arguments::{CONNECTIONS_LIMIT, IDLE_LIMIT, REPORT_LIMIT};
+use station_limits::{CARDS_LIMIT, HISTORY_LIMIT, LINES_LIMIT};
 
 /// What `replay` does.
 const REPLAY_ABOUT: &str =
@@ -249,7 +248,7 @@ must have the same number",
 /// How many touches a new journal has room for.
 const CAPACITY: Parameter = Parameter {
     name: "capacity",
-    takes: Takes::Number("N", CAPACITY_LIMIT),
+    takes: Takes::Number("N", HISTORY_LIMIT),
     rule: Rule::Required,
     help: "The number of touches that a new journal has room for, from 1 to 1000000",
 };

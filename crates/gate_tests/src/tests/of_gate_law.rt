@@ -15,7 +15,7 @@ use super::{GATE, ROWS, Row, assert_same, assert_same_at, new_client, open};
 use fare_schedule::Schedule;
 use fare_table::{EXAMPLE_TABLE, Fares};
 use gate_client::{AskFault, Client, HearFault};
-use gate_law::{Carried, SettleFault, TouchFault, ask_and_settle, settle};
+use gate_law::{Carried, NoReplyFault, TouchFault, ask_and_settle, settle_in_memory};
 use gate_session::{Answer, Clerk, FaultCode};
 use oyster_account::{Reply, Touch};
 use station::Script;
@@ -25,7 +25,7 @@ use std::sync::Wait;
 use tap_disk::MemoryDisk;
 
 /// No answer came, or a part of one.
-const NONE: SettleFault = SettleFault::Unheard(HearFault::NoAnswer);
+const NONE: NoReplyFault = NoReplyFault::Unheard(HearFault::NoAnswer);
 
 /// A line that loses nothing.
 const WHOLE: Carried = Carried {
@@ -62,10 +62,10 @@ fn settled<R: Abort + Wait, C: Clerk>(
     client: &mut Client<MemoryDisk>,
     station: &mut C,
     carried: Carried,
-) -> Result<Reply, SettleFault> {
+) -> Result<Reply, NoReplyFault> {
     let waits = client.waiting().is_some();
     assert!(rt; waits);
-    settle(rt, alloc, client, station, carried)
+    settle_in_memory(rt, alloc, client, station, carried)
 }
 
 /// What comes of the row's touch.

@@ -6,7 +6,7 @@ use super::of_gate_law::{new_schedule, opened_again};
 use super::{GATE, ROWS, Row, assert_same, assert_same_at, new_client, new_disk, open};
 use fare_table::{EXAMPLE_TABLE, Fares};
 use gate_client::{AskFault, Client, HearFault};
-use gate_law::{SettleFault, ask_in_steps, crash_in_steps};
+use gate_law::{NoReplyFault, ask_in_steps, crash_in_steps};
 use oyster_account::Reply;
 use reply_book::NameHashing;
 use station_calls::{Plan, Round, keeper_in_steps, round_in_steps, settle_in_steps};
@@ -26,10 +26,10 @@ const APPEND_CALLS: u64 = 4;
 const CHOICES: [Choice; 3] = [Choice::Old, Choice::New, Choice::Torn(0)];
 
 /// The station's disk failed at this touch, or at one before.
-const HALTED: SettleFault = SettleFault::Unheard(HearFault::Refused(3));
+const HALTED: NoReplyFault = NoReplyFault::Unheard(HearFault::Refused(3));
 
 /// Another touch stands under the gate and number.
-const CONFLICT: SettleFault = SettleFault::Unheard(HearFault::Refused(2));
+const CONFLICT: NoReplyFault = NoReplyFault::Unheard(HearFault::Refused(2));
 
 /// A gate, and its station before or behind a round.
 #[derive(Drop)]
@@ -138,7 +138,7 @@ fn assert_round<R: Abort + Wait>(
     alloc: Global,
     both: Both,
     plan: &Plan,
-    want: Result<Reply, SettleFault>,
+    want: Result<Reply, NoReplyFault>,
 ) -> Both {
     let Round {
         client,
@@ -155,7 +155,7 @@ fn settled_by<N: Named, R: Abort + Wait>(
     alloc: Global,
     opening: Opening<MemoryDisk>,
     client: &mut Client<MemoryDisk>,
-) -> Option<(Result<Reply, SettleFault>, u32)>
+) -> Option<(Result<Reply, NoReplyFault>, u32)>
     requires { IsNameOf N.opened N.name N.parts N.commit_log N.table (opened_of opening) }
 {
     let (keeper, seats, desks) = keeper_in_steps::<N, MemoryDisk, R>(rt, alloc, opening).ok()?;
@@ -175,7 +175,7 @@ fn assert_end<R: Abort + Wait>(
     rt: &R,
     alloc: Global,
     both: Both,
-    want: Result<Reply, SettleFault>,
+    want: Result<Reply, NoReplyFault>,
     entries: u32,
 ) {
     let Both { client, opening } = both;

@@ -3,7 +3,7 @@
 ghost use Rattle.std.specs.Prelude.{IfErr, IfNone, IfSome, OnOk};
 ghost use Rattle.journal_audit.specs.Expected.{IsAsExpected, IsOther, IsExpected, HasHeaderCause};
 
-use crate::fault::HeaderFault;
+use crate::fault::JournalHeaderFault;
 use command_line::Seal;
 
 /// What is asked of a journal beside that it is sound.
@@ -18,18 +18,22 @@ pub struct Asked {
 }
 
 /// Whether a header of this capacity and number of cards says what is expected: the capacity first.
-pub(crate) fn check_header(asked: &Asked, capacity: u32, cards: u32) -> Result<(), HeaderFault>
+pub(crate) fn check_header(
+    asked: &Asked,
+    capacity: u32,
+    cards: u32,
+) -> Result<(), JournalHeaderFault>
     ensures ok { OnOk result (IsExpected asked.now capacity cards) }
     ensures fault { IfErr result (HasHeaderCause asked.now capacity cards) }
 {
     if let Some(expected) = other_than(asked.capacity, capacity) {
-        return Err(HeaderFault::Capacity {
+        return Err(JournalHeaderFault::Capacity {
             says: capacity,
             expected,
         });
     }
     if let Some(expected) = other_than(asked.cards, cards) {
-        return Err(HeaderFault::Cards {
+        return Err(JournalHeaderFault::Cards {
             says: cards,
             expected,
         });

@@ -1,7 +1,7 @@
 //! The lines that are written of rows.
 
 ghost use Rattle.std.specs.Prelude.{◌≡◌, ◌≤◌, string_bytes, IfOk};
-ghost use Rattle.oyster_account.specs.declared.card.TheConstants.{HISTORY_LIMIT};
+ghost use Rattle.station_limits.specs.declared.limits.TheConstants.{HISTORY_LIMIT};
 ghost use Rattle.journal_audit.specs.Sums.{pence_moved, most_moved};
 ghost use Rattle.journal_audit.specs.BalancesRows.{AreMeasuredRows};
 ghost use Rattle.journal_audit.specs.BalancesLines.{state_word, row_line, text_of_rows};

@@ -2,7 +2,7 @@
 
 ghost use Rattle.std.specs.Prelude.{◌≡◌, ◌≤◌, ◌<◌, ◌+◌, ◌^◌, ◌↔◌, length, take, sum_by, All};
 ghost use Rattle.std.specs.Prelude.{IsTrue, IfOk, IfErr};
-ghost use Rattle.oyster_account.specs.declared.card.TheConstants.{HISTORY_LIMIT};
+ghost use Rattle.station_limits.specs.declared.limits.TheConstants.{HISTORY_LIMIT};
 ghost use Rattle.reply_book.specs.Book.{entries_of, cards_of, tables_of, Stands};
 ghost use Rattle.reply_book.specs.Legal.{history_of};
 ghost use Rattle.journal_audit.specs.declared.fault.AuditFault.TheVariants.{Memory};

@@ -2,7 +2,7 @@
 
 ghost use Rattle.std.specs.Prelude.{◌≡◌, ◌≤◌, ◌+◌, ◌^◌, List, ◌∷◌, ◌++◌, [], length, replicate};
 ghost use Rattle.std.specs.Prelude.{sum_by, IfOk};
-ghost use Rattle.oyster_account.specs.declared.card.TheConstants.{HISTORY_LIMIT};
+ghost use Rattle.station_limits.specs.declared.limits.TheConstants.{HISTORY_LIMIT};
 ghost use Rattle.oyster_account.specs.declared.reply.Judged.{Judged};
 ghost use Rattle.oyster_account.specs.History.{counts_for};
 ghost use Rattle.reply_book.specs.Book.{entries_of, Stands};

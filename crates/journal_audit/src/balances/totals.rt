@@ -1,7 +1,7 @@
 //! The sums over the rows.
 
 ghost use Rattle.std.specs.Prelude.{◌≡◌, ◌<◌, ◌≤◌, ◌^◌, length, All};
-ghost use Rattle.oyster_account.specs.declared.card.TheConstants.{HISTORY_LIMIT};
+ghost use Rattle.station_limits.specs.declared.limits.TheConstants.{HISTORY_LIMIT};
 ghost use Rattle.journal_audit.specs.Sums.{pence_moved, most_moved};
 ghost use Rattle.journal_audit.specs.BalancesRows.{IsBalanced, AreMeasuredRows};
 ghost use Rattle.journal_audit.specs.Totals.{totals_of, sums_in, AreTotalsBalanced};

@@ -10,7 +10,7 @@ ghost use Rattle.journal_audit.specs.declared.commands.fault.CommandFault.TheVar
 ghost use Rattle.journal_audit.specs.Command.{audit_fault};
 ghost use Rattle.journal_audit.specs.Told.{told_fault};
 
-use crate::fault::{AuditFault, GateFault, HeaderFault, SealFault};
+use crate::fault::{AuditFault, GateFault, JournalHeaderFault, SealFault};
 use clap::Error as LineError;
 use console::{Detail, TrialFault, tell_fault};
 use door_file::DoorFault;
@@ -32,7 +32,7 @@ pub enum CommandFault {
     /// The journal can't be carried over to the new file.
     Migrate(NotCarried, Detail),
     /// The journal's header doesn't say what is expected of it.
-    Header(HeaderFault),
+    Header(JournalHeaderFault),
     /// The journal isn't the one that was sealed.
     Seal(SealFault),
     /// The file isn't the gate's.

@@ -5,10 +5,9 @@ ghost use Rattle.journal_audit.specs.Differing.{other_table, other_cards, missin
 ghost use Rattle.journal_audit.specs.Told.{told_fault};
 
 use crate::commands::fault::CommandFault;
+use crate::history::date::printed_day;
 use console::Detail;
 use fare_table::Digest;
-use jiff_core::civil::Date;
-use jiff_fmt::temporal::DateTimePrinter;
 use std::alloc::{AllocError, Global};
 use tap_journal::{Discrepancy, JournalFault, MigrateCause, Refused};
 
@@ -87,8 +86,8 @@ fn words_of(alloc: Global, table: Option<&str>, found: Discrepancy) -> Option<St
             is_accepted,
             digest,
         } => {
-            let day = day_text(alloc, day).ok()?;
-            missing_words(alloc, &digest, &day, is_accepted).ok()
+            let day = printed_day(day);
+            missing_words(alloc, &digest, day.as_str(), is_accepted).ok()
         }
     }
 }
@@ -129,17 +128,5 @@ fn missing_words(
         format!(in alloc; "no file has the table {digest}; its revision from {day} was accepted")
     } else {
         format!(in alloc; "no file has the table {digest}; its revision from {day} was refused")
-    }
-}
-
-/// A day, counted from 1970-01-01: its date, or its number where the calendar has none.
-fn day_text(alloc: Global, day: i32) -> Result<String, AllocError> {
-    match Date::from_unix_epoch_day(i64::from(day)) {
-        Ok(date) => {
-            let printed = DateTimePrinter::new().date_text(date);
-            let text = printed.as_str();
-            format!(in alloc; "{text}")
-        }
-        Err(_) => format!(in alloc; "{day}"),
     }
 }

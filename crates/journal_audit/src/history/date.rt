@@ -4,6 +4,7 @@ ghost use Rattle.std.specs.Prelude.{◌≡◌, ◌<◌, ◌≤◌, length};
 ghost use Rattle.std.specs.Fmt.{signed_decimal};
 ghost use Rattle.jiff_core.specs.Date.{epoch_day};
 ghost use Rattle.jiff_fmt.specs.Text.{pad2};
+ghost use Rattle.money_time.specs.declared.date.TheConstants.{DAY_SECONDS};
 ghost use Rattle.journal_audit.specs.declared.history.date.TheConstants.{DAY_LIMIT};
 ghost use Rattle.journal_audit.specs.Calendar.{day_text, clock_text};
 
@@ -48,14 +49,15 @@ impl DayPrinter {
     fn of(day: i32) -> DayPrinter
         ensures { result.day ≡ day }
     {
-        let text = printed(day);
+        let text = printed_day(day);
         DayPrinter { day, text }
     }
 }
 
-/// What is printed of a day.
+/// What is printed of a day, in days since 1970-01-01: its date, or its number where the calendar
+/// has none.
 #[tactic(auto, unfolding(crate::specs::Calendar::day_text))]
-fn printed(day: i32) -> ArrayString<DAY_LIMIT>
+pub(crate) fn printed_day(day: i32) -> ArrayString<DAY_LIMIT>
     ensures { result.bytes ≡ day_text day }
 {
     match Date::from_unix_epoch_day(i64::from(day)) {
@@ -84,7 +86,7 @@ fn printed_number(day: i32) -> ArrayString<DAY_LIMIT>
 
 /// A second of the day in UTC, as `T08:00:00Z`.
 pub fn clock(second: u32) -> [u8; CLOCK_SIZE]
-    requires { second < 86_400 }
+    requires { second < DAY_SECONDS }
     ensures { result ≡ clock_text second }
 {
     let [hour_tens, hour] = two_digits((second / 3_600) as u8);

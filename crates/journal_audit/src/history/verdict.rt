@@ -24,7 +24,7 @@ pub(crate) fn put_verdict(line: &mut LineEnd, verdict: u8)
 /// The name of the verdict that has this code (FARES.md, "Verdicts"). It is empty where none
 /// has: no reply comes with it.
 #[tactic(auto, unfolding(crate::specs::HistoryRow::verdict_field))]
-fn verdict_field(verdict: u8) -> &'static str
+pub fn verdict_field(verdict: u8) -> &'static str
     ensures { result.now ≡ verdict_field verdict }
 {
     match verdict_name(verdict) {

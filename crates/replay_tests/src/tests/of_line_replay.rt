@@ -7,7 +7,7 @@ mod rows;
 mod tables;
 
 use super::assert_same_at;
-use line_replay::{ReplayFault, replay_text};
+use line_replay::{LineReplayFault, replay_text};
 use reply_book::NameHashing;
 use rows::{ASKED_AGAIN, FIRST_PATH, MISSING_TOUCHES, REFUSALS, REVISION, UNKNOWN_TABLE};
 use std::alloc::{AllocError, Global};
@@ -45,7 +45,7 @@ fn run<R: Read, W: Write>(
     reader: &mut R,
     writer: &mut W,
     turns: u32,
-) -> Result<Result<(), ReplayFault>, Fail> {
+) -> Result<Result<(), LineReplayFault>, Fail> {
     let schedule = schedule_of(alloc, revised).ok_or("a schedule")?;
     Ok(replay_text(
         alloc,
@@ -63,7 +63,7 @@ fn run<R: Read, W: Write>(
 fn assert_replayed<R: Abort + AllocGlobal, C: Debug + Copy>(
     rt: &R,
     (bytes, revised): (&[u8], bool),
-    end: Result<(), ReplayFault>,
+    end: Result<(), LineReplayFault>,
     want: &[u8],
     at: C,
 ) -> Result<(), Fail> {
@@ -129,10 +129,10 @@ fn digits_of_either_case_are_read_and_a_bad_line_ends_the_run(rt: HostRuntime) -
           000000000000000000000000000000000000000000000000000000000000000000";
     let (revision, _) = REVISION[1];
     let revision = revision.as_bytes();
-    let first = Err(ReplayFault::BadLine(1));
-    let second = Err(ReplayFault::BadLine(2));
-    let third = Err(ReplayFault::BadLine(3));
-    let rows: [(&[u8], Result<(), ReplayFault>, &[u8]); 13] = [
+    let first = Err(LineReplayFault::BadLine(1));
+    let second = Err(LineReplayFault::BadLine(2));
+    let third = Err(LineReplayFault::BadLine(3));
+    let rows: [(&[u8], Result<(), LineReplayFault>, &[u8]); 13] = [
         // The last line has no line feed.
         (b"0005050000000a\n0005050000000B", Ok(()), TWO_VACANT),
         (b"zz\n", first, BAD),
@@ -185,7 +185,7 @@ fn assert_tried<R: Abort + AllocGlobal>(
     rt: &R,
     asked: &[u8],
     trial: Trial,
-    end: Result<(), ReplayFault>,
+    end: Result<(), LineReplayFault>,
     answers: &[u8],
     at: &str,
 ) -> Result<(), Fail> {
@@ -209,10 +209,10 @@ fn assert_tried<R: Abort + AllocGlobal>(
 }
 
 /// A read that fails, and a run of as many reads as are allowed.
-const READ: Result<(), ReplayFault> = Err(ReplayFault::Run(RunFault::Read));
+const READ: Result<(), LineReplayFault> = Err(LineReplayFault::Run(RunFault::Read));
 
 /// A write that fails or takes nothing.
-const WRITE: Result<(), ReplayFault> = Err(ReplayFault::Run(RunFault::Write));
+const WRITE: Result<(), LineReplayFault> = Err(LineReplayFault::Run(RunFault::Write));
 
 /// A run in which the reader fails at its end.
 const READER_FAILS: Trial = Trial {
@@ -285,6 +285,6 @@ fn a_line_is_too_long_at_its_129th_byte_and_not_before(rt: HostRuntime) -> Resul
         ..READER_FAILS
     };
     assert_tried(&rt, &zeros[..128], by_64, READ, b"", "128 bytes")?;
-    let bad = Err(ReplayFault::BadLine(1));
+    let bad = Err(LineReplayFault::BadLine(1));
     assert_tried(&rt, &zeros, by_64, bad, BAD, "129 bytes")
 }

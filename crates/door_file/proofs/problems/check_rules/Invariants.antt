@@ -1,6 +1,6 @@
 use Rattle.std.proofs.Common.{◌≡◌, ◌+◌, [], map, take, drop}
 use Rattle.toml.specs.View.{view}
-use Rattle.door_file.specs.First.{first}
+use Rattle.toml_reading.specs.First.{first}
 use Rattle.door_file.specs.Faults.{rules_faults}
 use Rattle.door_file.proofs.problems.check_rules.Given as goal
 

@@ -1,6 +1,6 @@
 use Rattle.std.proofs.Common.{◌≡◌, drop, map}
 use Rattle.toml.specs.View.{view, table_view}
-use Rattle.door_file.specs.First.{first}
+use Rattle.toml_reading.specs.First.{first}
 use Rattle.door_file.specs.Faults.{keys_faults}
 use Rattle.door_file.proofs.problems.first_in_keys.Given as goal
 

@@ -3,9 +3,9 @@ use Rattle.std.specs.List.{list_any}
 use Rattle.std.proofs.lemmas.Iterator.{YieldsList-from_slice}
 use Rattle.std.proofs.lemmas.Iterator.Search.{any_from_yields_List}
 use Rattle.toml.specs.View.{view}
+use Rattle.toml_reading.proofs.TestLemmas.{list_any-map}
 use Rattle.door_file.specs.Tree.{is_kind}
 use Rattle.door_file.specs.declared.kind.Kind.TheVariants.{Enquire}
-use Rattle.door_file.proofs.TreeLemmas.{list_any-map}
 use Rattle.door_file.proofs.problems.has_others.Goals as goal
 
 pub returns : goal.returns

@@ -4,8 +4,8 @@ use Rattle.std.specs.Str.{bytes_eq}
 use Rattle.std.proofs.lemmas.Iterator.{YieldsList-from_slice}
 use Rattle.std.proofs.lemmas.Iterator.Search.{any_from_yields_List}
 use Rattle.toml.specs.View.{view}
+use Rattle.toml_reading.proofs.TestLemmas.{list_any-map}
 use Rattle.door_file.specs.Tree.{name_in}
-use Rattle.door_file.proofs.TreeLemmas.{list_any-map}
 use Rattle.door_file.proofs.repeats.is_taken.Goals as goal
 
 pub returns : goal.returns

@@ -119,7 +119,7 @@ fn assert_refused<R: Abort + Wait>(
         act,
         ..ROWS[0].touch
     };
-    let refused = SettleFault::Unheard(HearFault::Refused(code));
+    let refused = NoReplyFault::Unheard(HearFault::Refused(code));
     let none = asked_by_book(rt, alloc, &mut client, clerk, &touch, WHOLE);
     assert_same_at(rt, none, Err(TouchFault::Unsettled(refused)), &act);
     drop(client);

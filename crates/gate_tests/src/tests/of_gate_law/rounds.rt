@@ -99,7 +99,7 @@ fn a_touch_that_is_refused_waits_on(rt: HostRuntime) {
             fault: Some(fault),
             ..Script::new()
         };
-        let refused = SettleFault::Unheard(HearFault::Refused(code));
+        let refused = NoReplyFault::Unheard(HearFault::Refused(code));
         let none = asked(&rt, rt.alloc(), &mut client, &mut station, &ROWS[0], WHOLE);
         assert_same(&rt, none, Err(TouchFault::Unsettled(refused)));
         assert_station(&rt, &station, 0, 0);

@@ -5,7 +5,7 @@ use super::asking;
 use crate::tests::{assert_same_at, with};
 use command_line::Sealed;
 use journal_audit::{
-    Asked, AuditFault, Finding, GateFault, HeaderFault, SealFault, audit_gate_file,
+    Asked, AuditFault, Finding, GateFault, JournalHeaderFault, SealFault, audit_gate_file,
 };
 use std::alloc::Global;
 use std::process::Abort;
@@ -100,13 +100,13 @@ fn what_is_no_file_of_the_gate_is_told_by_its_cause(rt: HostRuntime) -> Result<(
 
 #[test]
 fn a_gates_file_is_held_against_what_is_expected(rt: HostRuntime) -> Result<(), Fail> {
-    let capacity = HeaderFault::Capacity {
+    let capacity = JournalHeaderFault::Capacity {
         says: 5,
         expected: 9,
     };
     let fault = Err(AuditFault::Header(capacity));
     assert_told(&rt, asking(Some(9), Some(2)), &FILE, fault, "")?;
-    let cards = HeaderFault::Cards {
+    let cards = JournalHeaderFault::Cards {
         says: 1,
         expected: 2,
     };

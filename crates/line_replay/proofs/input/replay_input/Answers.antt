@@ -1,7 +1,7 @@
 use Rattle.std.proofs.Common.{inr, refl}
 use Rattle.reply_book.specs.Tables.{tables_in}
 use Rattle.table_check.proofs.TableLemmas.{handed-on}
-use Rattle.line_replay.specs.Texts.{replay_fault}
+use Rattle.line_replay.specs.Fault.{replay_fault}
 use Rattle.line_replay.proofs.input.replay_input.Goals as goal
 
 -- the run was by the tables of the words, and ended early

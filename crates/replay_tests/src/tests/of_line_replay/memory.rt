@@ -3,7 +3,7 @@
 use super::rows::{FIRST_PATH, REVISION};
 use super::tables::both;
 use super::{assert_same_at, lines_of};
-use line_replay::{ReplayFault, replay_text};
+use line_replay::{LineReplayFault, replay_text};
 use reply_book::NameHashing;
 use std::alloc::Global;
 use std::io::Cursor;
@@ -16,7 +16,7 @@ const TRIES: u32 = 10;
 
 /// How the replay of the worked revision ends, whose answers stand as far as they were written.
 /// There is none where there was no memory for what it is given.
-fn attempt(rt: &impl Abort, alloc: Global) -> Option<Result<(), ReplayFault>> {
+fn attempt(rt: &impl Abort, alloc: Global) -> Option<Result<(), LineReplayFault>> {
     let asked = lines_of(alloc, &[&FIRST_PATH, &REVISION], false).ok()?;
     let answered = lines_of(alloc, &[&FIRST_PATH, &REVISION], true).ok()?;
     let schedule = both(alloc)?;
@@ -44,7 +44,7 @@ fn a_replay_that_was_refused_memory_is_begun_again(rt: HostRuntime) -> Result<()
     for _ in 0..TRIES {
         match attempt(&rt, rt.alloc()) {
             Some(Ok(())) => return Ok(()),
-            Some(Err(ReplayFault::Run(RunFault::Memory))) | None => {}
+            Some(Err(LineReplayFault::Run(RunFault::Memory))) | None => {}
             Some(Err(fault)) => return Err(fault.into()),
         }
     }

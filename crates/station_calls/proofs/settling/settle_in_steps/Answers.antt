@@ -7,7 +7,7 @@ use Rattle.gate_client.specs.declared.fault.HearFault.TheVariants.{Refused}
 use Rattle.gate_client.specs.Client.{waits_of, answered}
 use Rattle.station_calls.specs.Commits.{IsCommitRun}
 use Rattle.station_calls.specs.Settled.{IsSettling}
-use Rattle.gate_law.specs.declared.round.SettleFault.TheVariants.{Unheard}
+use Rattle.gate_law.specs.declared.round.NoReplyFault.TheVariants.{Unheard}
 use Rattle.station_calls.proofs.SettleLemmas.{unsent, settles, one-waits, one-reply, one-refused}
 use Rattle.station_calls.proofs.SettleLemmas.{no-fault, no-reply}
 use Rattle.station_calls.proofs.settling.settle_in_steps.Goals as goal

@@ -17,7 +17,7 @@ returns-clause-ok g c = record {
   told = c.from.ensures ∙ c.revision_status.ensures;
   written = record {
     text = c.deref-5.result.now;
-    appended = c.in_ok-write_fare.ensures.ok;
+    appended = c.in_ok-write_lines.ensures.ok;
     says = (string_bytes c.in_ok-places.places, c.in_ok-places.ensures, c.deref-5.ensures ∙ c.in_ok-compared.ensures.1);
   };
 }

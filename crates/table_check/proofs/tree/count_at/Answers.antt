@@ -5,4 +5,4 @@ use Rattle.table_check.proofs.tree.count_at.Goals as goal
 
 -- a list has as many items as the code has values
 pub returns : goal.returns
-returns c = sym (length-map c.rows_at.result.now view) ∙ ap length c.rows_at.ensures
+returns c = sym (length-map c.items_at.result.now view) ∙ ap length c.items_at.ensures

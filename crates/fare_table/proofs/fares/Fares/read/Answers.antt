@@ -2,7 +2,7 @@ use Rattle.std.proofs.Common.{sym, ◌∙◌, ap, refl}
 use Rattle.std.proofs.lemmas.Result.{err_from_is_err_and}
 use Rattle.sha2.specs.Sha256.{sha256}
 use Rattle.toml.specs.View.{table_view}
-use Rattle.fare_table.specs.First.{first}
+use Rattle.toml_reading.specs.First.{first}
 use Rattle.fare_table.proofs.FaultsLemmas.{in_twice, in_prices, in_zone, in_dates, in_none, agreement-lists, not_low}
 use Rattle.fare_table.proofs.LimitsLemmas.{lists-limits}
 use Rattle.fare_table.proofs.SinglesLemmas.{lists-singles}

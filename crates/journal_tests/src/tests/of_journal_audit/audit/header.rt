@@ -5,12 +5,12 @@ use crate::tests::of_journal_audit::asking;
 
 /// The header says the first capacity, and the second is expected.
 const fn capacity(says: u32, expected: u32) -> AuditFault {
-    AuditFault::Header(HeaderFault::Capacity { says, expected })
+    AuditFault::Header(JournalHeaderFault::Capacity { says, expected })
 }
 
 /// The header says the first number of cards, and the second is expected.
 const fn cards(says: u32, expected: u32) -> AuditFault {
-    AuditFault::Header(HeaderFault::Cards { says, expected })
+    AuditFault::Header(JournalHeaderFault::Cards { says, expected })
 }
 
 #[test]

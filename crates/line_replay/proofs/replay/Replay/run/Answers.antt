@@ -1,5 +1,5 @@
 use Rattle.std.proofs.Common.{◌≡◌, ℕ, take, refl, subst, ap, ◌∙◌, arith}
-use Rattle.line_replay.specs.declared.fault.ReplayFault.TheVariants.{Run}
+use Rattle.line_replay.specs.declared.fault.LineReplayFault.TheVariants.{Run}
 use Rattle.text_io.specs.declared.fault.RunFault.TheVariants.{Memory, Read}
 use Rattle.line_replay.specs.Progress.{output_from}
 use Rattle.line_replay.proofs.OutputLemmas.{on_ok-any}

@@ -1,7 +1,0 @@
--- The map of a table finds at the key's text what the members have there.
-use Rattle.toml.proofs.Views.{table_get}
-use Rattle.door_file.proofs.tree.value_at.Goals as goal
-
-pub returns : goal.returns
-returns c =
-    rw (← c.text.ensures) (table_get c.get.result c.text.result.now c.args.table.now.entries c.get.ensures.value)

@@ -1,0 +1,5 @@
+pub mod FirstLemmas
+pub mod TestLemmas
+pub mod TextLemmas
+pub mod TreeLemmas
+mod Examples

@@ -1,0 +1,3 @@
+pub mod First
+pub mod Tree
+pub mod Range
