@@ -12,7 +12,7 @@ use Rattle.gate_session.specs.declared.session.Served.{Served}
 use Rattle.gate_session.specs.Frames.{RequestFits}
 use Rattle.gate_session.specs.Answers.{AnswerFits}
 use Rattle.gate_session.specs.Session.{IsSession}
-use Rattle.gate_door.specs.Door.{refusal_of}
+use Rattle.door_clerk.specs.Door.{refusal_of}
 use Rattle.gate_law.specs.Steps.{is_reply}
 use Rattle.tap_desk.specs.declared.desk.Enquiry.{Enquiry}
 use Rattle.tap_desk.specs.Listed.{BeginsWith}

@@ -10,7 +10,7 @@ use Rattle.gate_session.specs.declared.answer.Answer.{Answer}
 use Rattle.gate_session.specs.declared.answer.FaultCode.{FaultCode}
 use Rattle.gate_session.specs.declared.answer.FaultCode.TheVariants as codes
 use Rattle.gate_session.specs.Session.{refusal}
-use Rattle.gate_door.specs.Door.{refusal_of}
+use Rattle.door_clerk.specs.Door.{refusal_of}
 use Rattle.gate_law.specs.WholeSteps.{IsOfNoTouch}
 use Rattle.tap_desk.specs.Desks.{DeskState}
 use Rattle.tap_office.specs.declared.fault.SubmitFault.{SubmitFault}

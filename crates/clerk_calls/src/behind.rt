@@ -5,7 +5,7 @@ ghost use Rattle.gate_session.specs.Session.{IsSession};
 ghost use Rattle.clerk_calls.specs.Logged.{IsServedFromLog};
 ghost use Rattle.clerk_calls.specs.Answered.{HasSaid};
 
-use gate_door::Surroundings;
+use door_clerk::Surroundings;
 use gate_session::Clerk;
 use office_lines::{Lent, OfficeClerk, Watch, WatchedDoor};
 use tap_disk::Disk;

@@ -3,10 +3,10 @@
 use Rattle.std.specs.Prelude.{ℕ, ◌+◌, ◌==◌, nat_lt, Bool, ◌||◌, List, [], ◌∷◌, ◌++◌, codes, map}
 use Rattle.std.specs.Prelude.{length, Option, Some, None, if◌then◌else◌}
 use Rattle.std.specs.Fmt.{decimal}
-use Rattle.gate_door.specs.Rule.{Terms}
-use Rattle.gate_door.specs.declared.rule.GateRange.{GateRange}
-use Rattle.gate_door.specs.declared.rule.Kinds.{Kinds}
-use Rattle.gate_door.specs.declared.rule.Rate.{Rate}
+use Rattle.door_clerk.specs.Rule.{Terms}
+use Rattle.door_clerk.specs.declared.rule.GateRange.{GateRange}
+use Rattle.door_clerk.specs.declared.rule.Kinds.{Kinds}
+use Rattle.door_clerk.specs.declared.rule.Rate.{Rate}
 use Rattle.door_file.specs.Keys.{word_of}
 use Rattle.door_file.specs.Rule.{Entry}
 use Rattle.door_file.specs.declared.kind.Kind.{Kind}

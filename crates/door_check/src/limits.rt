@@ -4,8 +4,8 @@ ghost use Rattle.std.specs.Prelude.{◌≡◌, Some};
 ghost use Rattle.door_check.specs.Lines.{printed_range, printed_word, printed_kinds};
 ghost use Rattle.door_check.specs.Lines.{printed_limit, printed_rate};
 
+use door_clerk::{GateRange, Kinds, Rate};
 use door_file::Kind;
-use gate_door::{GateRange, Kinds, Rate};
 use std::fmt;
 
 /// A range of gates. It prints as the number of one gate, or as the first and the last.

@@ -3,14 +3,14 @@
 ghost use Rattle.std.specs.Prelude.{◌≡◌, ◌++◌, ◌+◌, IfOk, OnOk, map, string_bytes};
 ghost use Rattle.door_file.specs.Door.{rules_of};
 ghost use Rattle.door_file.specs.Rule.{entry_of};
-ghost use Rattle.gate_door.specs.Rule.{terms_of};
+ghost use Rattle.door_clerk.specs.Rule.{terms_of};
 ghost use Rattle.door_check.specs.Lines.{printed_gates, printed_ranges, printed_terms};
 ghost use Rattle.door_check.specs.Lines.{rule_line, lines_behind, door_lines, some_reserved};
 
 use crate::limits::{KindWords, Limit, Pace, Range};
 use crate::name::push_name;
+use door_clerk::{GateRange, Rule};
 use door_file::{Door, NamedRule};
-use gate_door::{GateRange, Rule};
 use std::alloc::{AllocError, Global};
 
 /// The lines of a door: one for each rule, in the order of the file, and how many rules there are.

@@ -6,7 +6,7 @@ use Rattle.std.specs.List.{list_all, AllZip}
 use Rattle.std.proofs.lemmas.Bool.{leb-true, le-leb, ltb-true, lt-ltb}
 use Rattle.std.proofs.lemmas.List.{length-map}
 use Rattle.toml.specs.Data.{Data, integer, array, no_items, item}
-use Rattle.gate_door.specs.declared.rule.GateRange.{GateRange}
+use Rattle.door_clerk.specs.declared.rule.GateRange.{GateRange}
 use Rattle.toml_reading.specs.Tree.{elements_of, items_in}
 use Rattle.toml_reading.specs.Range.{whole_of}
 use Rattle.toml_reading.proofs.TestLemmas.{and_left, and_right, and_both}

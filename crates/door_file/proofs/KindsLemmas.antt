@@ -9,7 +9,7 @@ use Rattle.std.proofs.lemmas.List.Elements.{All-nil, All-cons, All-head, All-tai
 use Rattle.std.proofs.lemmas.Slice.Eq.{bytes_eq-Decides}
 use Rattle.toml.specs.Data.{Data, string, array, as_str}
 use Rattle.station_limits.specs.declared.limits.TheConstants.{CERTIFICATE_NAME_LIMIT}
-use Rattle.gate_door.specs.declared.rule.Kinds.{Kinds as KindsValue}
+use Rattle.door_clerk.specs.declared.rule.Kinds.{Kinds as KindsValue}
 use Rattle.toml_reading.specs.Tree.{elements_of, items_in, text_in}
 use Rattle.toml_reading.proofs.TestLemmas.{and_left, and_right, and_both, either-false, neither}
 use Rattle.door_file.specs.Keys.{word_of, all_kinds}

@@ -4,9 +4,9 @@ use Rattle.std.proofs.Common.{List, [], ◌∷◌, Option, Some, None, option_ma
 use Rattle.std.specs.List.{All, filter}
 use Rattle.std.proofs.lemmas.List.Elements.{All-nil, All-cons, All-head, All-tail}
 use Rattle.toml.specs.Data.{Data, table, Members}
-use Rattle.gate_door.specs.declared.rule.GateRange.{GateRange}
-use Rattle.gate_door.specs.declared.rule.Kinds.{Kinds}
-use Rattle.gate_door.specs.declared.rule.Rate.{Rate}
+use Rattle.door_clerk.specs.declared.rule.GateRange.{GateRange}
+use Rattle.door_clerk.specs.declared.rule.Kinds.{Kinds}
+use Rattle.door_clerk.specs.declared.rule.Rate.{Rate}
 use Rattle.toml_reading.specs.First.{first}
 use Rattle.toml_reading.specs.Tree.{text_in}
 use Rattle.toml_reading.proofs.FirstLemmas.{first_none, last_none, both-none, cons-none, filter-all}

@@ -2,10 +2,10 @@
 use Rattle.std.specs.Prelude.{ℕ, List, map, Option, Some, None, unwrap_or}
 use Rattle.std.specs.List.{list_any}
 use Rattle.toml.specs.Data.{Data, Members}
-use Rattle.gate_door.specs.Rule.{Terms}
-use Rattle.gate_door.specs.declared.rule.GateRange.{GateRange}
-use Rattle.gate_door.specs.declared.rule.Kinds.{Kinds}
-use Rattle.gate_door.specs.declared.rule.Rate.{Rate}
+use Rattle.door_clerk.specs.Rule.{Terms}
+use Rattle.door_clerk.specs.declared.rule.GateRange.{GateRange}
+use Rattle.door_clerk.specs.declared.rule.Kinds.{Kinds}
+use Rattle.door_clerk.specs.declared.rule.Rate.{Rate}
 use Rattle.toml_reading.specs.Tree.{members_in}
 use Rattle.toml_reading.specs.Range.{whole_in}
 use Rattle.door_file.specs.Keys.{shape_of}

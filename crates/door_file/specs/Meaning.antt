@@ -6,9 +6,9 @@ use Rattle.std.specs.List.{All, AllZip, AllPairs}
 use Rattle.toml.specs.Data.{Data, string, integer, array, table, no_items, item, Members}
 use Rattle.toml.specs.Parse.{parse_document}
 use Rattle.station_limits.specs.declared.limits.TheConstants.{CERTIFICATE_NAME_LIMIT}
-use Rattle.gate_door.specs.declared.rule.GateRange.{GateRange}
-use Rattle.gate_door.specs.declared.rule.Kinds.{Kinds}
-use Rattle.gate_door.specs.declared.rule.Rate.{Rate}
+use Rattle.door_clerk.specs.declared.rule.GateRange.{GateRange}
+use Rattle.door_clerk.specs.declared.rule.Kinds.{Kinds}
+use Rattle.door_clerk.specs.declared.rule.Rate.{Rate}
 use Rattle.toml_reading.specs.Tree.{elements_of}
 use Rattle.door_file.specs.Keys.{rule_keys, file_keys, word_of}
 use Rattle.door_file.specs.Rule.{Entry}

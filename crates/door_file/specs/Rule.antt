@@ -2,7 +2,7 @@
 use Rattle.std.specs.Prelude.{◌≡◌, ◌<◌, codes, ℕ, List, length, slice_get, Option, Some, None}
 use Rattle.std.specs.List.{find, position}
 use Rattle.std.specs.Str.{bytes_eq}
-use Rattle.gate_door.specs.Rule.{Terms, terms_of}
+use Rattle.door_clerk.specs.Rule.{Terms, terms_of}
 use Rattle.door_file.specs.declared.rule.NamedRule.{NamedRule}
 
 -- what a rule of a door says: the name that it is for, what its connections may send, and how many

@@ -5,7 +5,7 @@ use Rattle.std.specs.Str.{bytes_eq}
 use Rattle.toml.specs.Data.{Data, string, array, Members, no_members, member, get_member}
 use Rattle.toml_reading.specs.Tree.{elements_of, items_in, members_in, text_in}
 use Rattle.toml_reading.specs.Range.{whole_in}
-use Rattle.gate_door.specs.declared.rule.GateRange.{GateRange}
+use Rattle.door_clerk.specs.declared.rule.GateRange.{GateRange}
 use Rattle.door_file.specs.Keys.{text_of, word_of}
 use Rattle.door_file.specs.declared.key.Key.{Key}
 use Rattle.door_file.specs.declared.key.Key.TheVariants as key

@@ -6,7 +6,7 @@ ghost use Rattle.door_file.specs.Content.{ranges_of};
 ghost use Rattle.door_file.specs.declared.key.TheConstants.{HIGHEST_GATE};
 
 use crate::key::HIGHEST_GATE;
-use gate_door::GateRange;
+use door_clerk::GateRange;
 use std::alloc::{AllocError, Global};
 use toml::Value;
 use toml_reading::whole_in;

@@ -2,7 +2,7 @@
 ghost use Rattle.std.specs.Prelude.{◌≡◌, ◌≤◌, map, IfOk, IfSome};
 ghost use Rattle.std.specs.List.{list_any};
 ghost use Rattle.toml.specs.View.{view};
-ghost use Rattle.gate_door.specs.Rule.{terms_of};
+ghost use Rattle.door_clerk.specs.Rule.{terms_of};
 ghost use Rattle.toml_reading.specs.Tree.{members_in};
 ghost use Rattle.door_file.specs.Rule.{entry_of};
 ghost use Rattle.door_file.specs.Keys.{shape_of};
@@ -16,7 +16,7 @@ use crate::kind::Kind;
 use crate::name::Text;
 use crate::rule::NamedRule;
 use crate::tree::{self, is_kind, name_in};
-use gate_door::{Kinds, Rate, Rule};
+use door_clerk::{Kinds, Rate, Rule};
 use std::alloc::{AllocError, Global};
 use toml::Value;
 

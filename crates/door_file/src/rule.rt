@@ -1,6 +1,6 @@
 //! A rule of a door, with the name that it is for.
 use crate::name::Text;
-use gate_door::Rule;
+use door_clerk::Rule;
 
 /// A rule of a door, with the name that it is for.
 #[derive(Debug, Drop)]

@@ -2,8 +2,8 @@
 -- touch"; this project's choice).
 use Rattle.std.specs.Prelude.{Some, None}
 use Rattle.oyster_account.specs.declared.touch.Touch.{Touch}
-use Rattle.gate_door.specs.declared.reading.Standing.{Standing}
-use Rattle.gate_door.specs.declared.reading.Standing.TheVariants.{Repeat, New}
+use Rattle.door_clerk.specs.declared.reading.Standing.{Standing}
+use Rattle.door_clerk.specs.declared.reading.Standing.TheVariants.{Repeat, New}
 use Rattle.tap_office.specs.Name.{Opened}
 use Rattle.tap_office.specs.Room.{IsRoomFor}
 

@@ -1,8 +1,8 @@
 //! Why a server's door kept something out.
 
-use gate_door::Refusal;
-use std::fmt;
+use door_clerk::Refusal;
 use std::fmt::Display;
+use std::fmt;
 
 /// Why a request, or a whole connection, was kept out.
 #[derive(Clone, Copy, Debug, PartialEq, Eq)]

@@ -1,9 +1,9 @@
 //! What a door reads round it: the server's clocks, and the office's history.
 
-ghost use Rattle.gate_door.specs.declared.reading.Standing.{Standing};
+ghost use Rattle.door_clerk.specs.declared.reading.Standing.{Standing};
 ghost use Rattle.office_lines.specs.Standing.{StandsIn};
 
-use gate_door::{Clocks, Standing, Surroundings};
+use door_clerk::{Clocks, Standing, Surroundings};
 use oyster_account::Touch;
 use std::sync::Wait;
 use std::time::Clock;

@@ -13,7 +13,7 @@ use crate::notice::Watch;
 use crate::post::Service;
 use crate::rounds::Rounds;
 use crate::watched_door::WatchedDoor;
-use gate_door::{Bucket, DoorClerk, Surroundings};
+use door_clerk::{Bucket, DoorClerk, Surroundings};
 use gate_session::{Clerk, End, Served, serve};
 use proxy_header::Name;
 use station_door::{Pass, StationDoor};

@@ -3,7 +3,7 @@
 ghost use Rattle.std.specs.Prelude.{◌≡◌};
 
 use crate::notice::Watch;
-use gate_door::{DoorClerk, Surroundings};
+use door_clerk::{DoorClerk, Surroundings};
 use gate_session::{Answer, Clerk};
 use oyster_account::Touch;
 use std::sync::Wait;

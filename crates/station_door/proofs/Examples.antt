@@ -2,11 +2,11 @@
 -- bucket, and a stranger at a door with and without a rule for others.
 use Rattle.std.proofs.Common.{◌≡◌, ℕ, ◌≤◌, true, false, List, [], ◌∷◌, Option, Some, None, refl, arith}
 use Rattle.std.specs.Prelude.{codes}
-use Rattle.gate_door.specs.declared.rule.Kinds.{Kinds}
-use Rattle.gate_door.specs.declared.rule.Rate.{Rate as TouchRate}
-use Rattle.gate_door.specs.declared.bucket.Bucket.{Bucket}
-use Rattle.gate_door.specs.Rule.{Terms}
-use Rattle.gate_door.specs.Bucket.{level_at}
+use Rattle.door_clerk.specs.declared.rule.Kinds.{Kinds}
+use Rattle.door_clerk.specs.declared.rule.Rate.{Rate as TouchRate}
+use Rattle.door_clerk.specs.declared.bucket.Bucket.{Bucket}
+use Rattle.door_clerk.specs.Rule.{Terms}
+use Rattle.door_clerk.specs.Bucket.{level_at}
 use Rattle.door_file.specs.Rule.{Entry}
 use Rattle.station_door.specs.declared.shut_out.ShutOut.TheVariants.{NoRule, Connections}
 use Rattle.station_door.specs.Places.{PlacesState, fresh_places, is_full, next_bucket, after_enter, after_leave}

@@ -1,10 +1,10 @@
 -- Why the laws of a rule's places hold.
 use Rattle.std.proofs.Common.{◌≡◌, ◌≤◌, ℕ, Option, Some, arith}
 use Rattle.std.proofs.lemmas.Bool.Decides.{nat_tests}
-use Rattle.gate_door.specs.declared.bucket.Bucket.{Bucket}
-use Rattle.gate_door.specs.declared.rule.Rate.{Rate as TouchRate}
-use Rattle.gate_door.specs.Bucket.{later_of, level_at, merged_bucket}
-use Rattle.gate_door.proofs.BucketLemmas.{merged-is-lower}
+use Rattle.door_clerk.specs.declared.bucket.Bucket.{Bucket}
+use Rattle.door_clerk.specs.declared.rule.Rate.{Rate as TouchRate}
+use Rattle.door_clerk.specs.Bucket.{later_of, level_at, merged_bucket}
+use Rattle.door_clerk.proofs.BucketLemmas.{merged-is-lower}
 use Rattle.station_door.specs.Places.{PlacesState, after_leave, next_bucket}
 
 -- one place less is taken, so not all are

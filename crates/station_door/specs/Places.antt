@@ -1,9 +1,9 @@
 -- How many connections of a rule may be open, and the bucket with which the next one begins (this
 -- project's choice).
 use Rattle.std.specs.Prelude.{ℕ, ◌+◌, ◌-◌, Bool, cond, nat_le, Option, Some, None}
-use Rattle.gate_door.specs.declared.bucket.Bucket.{Bucket}
-use Rattle.gate_door.specs.declared.rule.Rate.{Rate}
-use Rattle.gate_door.specs.Bucket.{burst_of, merged_bucket}
+use Rattle.door_clerk.specs.declared.bucket.Bucket.{Bucket}
+use Rattle.door_clerk.specs.declared.rule.Rate.{Rate}
+use Rattle.door_clerk.specs.Bucket.{burst_of, merged_bucket}
 
 -- how many connections of a rule are open, of how many that may be, and the bucket with which the
 -- next one begins

@@ -3,8 +3,8 @@ ghost use Rattle.std.specs.Prelude.{◌≡◌, None, IsSome, IfOk, length, vec_l
 ghost use Rattle.station_door.specs.Entrances.{AreNumbered};
 
 use crate::places::Places;
+use door_clerk::Bucket;
 use door_file::NamedRule;
-use gate_door::Bucket;
 use std::alloc::{AllocError, Global};
 use std::sync::{Mutex, Wait};
 

@@ -1,8 +1,8 @@
 //! Laws of the places of a rule, each the contract of a call that does nothing.
 ghost use Rattle.std.specs.Prelude.{◌≡◌, ◌≤◌, ℕ, Option, Some};
-ghost use Rattle.gate_door.specs.declared.bucket.Bucket.{Bucket};
-ghost use Rattle.gate_door.specs.declared.rule.Rate.{Rate};
-ghost use Rattle.gate_door.specs.Bucket.{later_of, level_at, merged_bucket};
+ghost use Rattle.door_clerk.specs.declared.bucket.Bucket.{Bucket};
+ghost use Rattle.door_clerk.specs.declared.rule.Rate.{Rate};
+ghost use Rattle.door_clerk.specs.Bucket.{later_of, level_at, merged_bucket};
 ghost use Rattle.station_door.specs.Places.{PlacesState, after_leave, next_bucket};
 
 /// When one of the open connections has ended there is a place for the next one. It begins with the

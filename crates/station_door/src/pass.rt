@@ -2,8 +2,8 @@
 ghost use Rattle.std.specs.Prelude.{◌≡◌};
 
 use crate::entrance::Entrance;
+use door_clerk::Bucket;
 use door_file::NamedRule;
-use gate_door::Bucket;
 use std::sync::Wait;
 
 /// A connection's place at a station's door. `StationDoor::enter` alone makes one.

@@ -2,7 +2,7 @@
 ghost use Rattle.std.specs.Prelude.{◌≡◌};
 ghost use Rattle.station_door.specs.Places.{after_enter, after_leave, fresh_places, next_bucket};
 
-use gate_door::{Bucket, Rate};
+use door_clerk::{Bucket, Rate};
 use std::marker::Model;
 
 /// What the lock of a rule guards. Whenever it is free, no more places are taken than there are.

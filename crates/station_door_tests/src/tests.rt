@@ -2,8 +2,8 @@ mod buckets;
 mod places;
 mod rules;
 
+use door_clerk::Bucket;
 use door_file::Door;
-use gate_door::Bucket;
 use station_door::{Pass, ShutOut, StationDoor};
 use std::alloc::Global;
 use std::fmt::Debug;

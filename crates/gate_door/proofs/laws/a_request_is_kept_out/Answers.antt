@@ -1,5 +1,0 @@
-use Rattle.gate_door.proofs.DoorLemmas.{kept}
-use Rattle.gate_door.proofs.laws.a_request_is_kept_out.Goals as goal
-
-pub returns : goal.returns
-returns g c = λ round terms. kept g.C.Clerk.gives (g.S.Surroundings.shows round) (g.S.Surroundings.stands round) terms

@@ -1,7 +1,0 @@
-use Rattle.gate_door.proofs.DoorLemmas.{rate-kept}
-use Rattle.gate_door.proofs.laws.the_rate_is_kept.Goals as goal
-
-pub returns : goal.returns
-returns g c = λ round terms rate before after requests through answers replies is_rate.
-    rate-kept (g.S.Surroundings.shows round) (g.S.Surroundings.stands round) terms rate is_rate requests answers through
-    replies before after
