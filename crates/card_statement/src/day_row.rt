@@ -9,10 +9,9 @@ ghost use Rattle.card_statement.specs.Incomplete.{pence_missing};
 ghost use Rattle.card_statement.specs.Day.{journey_row, row_of_day, content_of_day};
 
 use crate::named_cap::{applied_cap, day_charge, fares_of};
-use crate::rules::is_covered;
 use crate::statement::{Day, Incomplete, JourneyRow};
 use fare_table::Cap;
-use oyster_account::Journey;
+use oyster_account::{Journey, is_covered};
 use std::alloc::{AllocError, Global};
 use std::vec::Vec;
 

@@ -10,7 +10,6 @@ ghost use Rattle.card_statement.specs.Incomplete.{incompletes};
 ghost use Rattle.card_statement.specs.Gathered.{continues_from, entry_rows, settled};
 ghost use Rattle.card_statement.specs.Gathered.{reason_after};
 
-use crate::rules::{is_change, is_in_time, journey_of, maximum_at};
 use crate::statement::{Incomplete, Reason};
 use fare_schedule::Schedule;
 use oyster_account::{Journey, Passage};
@@ -90,7 +89,7 @@ impl Gathered {
         ensures ready { IfOk result (λ _. AreStartsKnown (scheme_of schedule.now) self.new) }
     {
         match self.entry {
-            Some(entry) if is_in_time(schedule, entry.start, finish) => {
+            Some(entry) if entry.start.is_in_time(schedule, finish) => {
                 self.end_leg(schedule, entry, finish)
             }
             _ => self.end_no_leg(schedule, finish),
@@ -115,7 +114,7 @@ impl Gathered {
     {
         let start = start_of(entry, self.last);
         settle(&mut self.journeys, entry.continued, self.last)?;
-        self.last = Some(journey_of(schedule, start, finish));
+        self.last = Some(Journey::of(schedule, start, finish));
         self.entry = None;
         self.ended = Some(finish);
         Ok(())
@@ -142,7 +141,7 @@ impl Gathered {
         self.incompletes.push(Incomplete {
             touch: finish,
             reason,
-            pence: maximum_at(schedule, finish),
+            pence: finish.maximum(schedule),
         })?;
         self.entry = None;
         self.ended = None;
@@ -178,7 +177,7 @@ fn continues_from(schedule: &Schedule, ended: Option<Passage>, start: Passage) -
     ensures { result ≡ continues_from (scheme_of schedule.now) ended start }
 {
     match ended {
-        Some(finish) => is_change(schedule, finish, start),
+        Some(finish) => finish.is_change(schedule, start),
         None => false,
     }
 }
@@ -218,7 +217,7 @@ fn miss_entry(
         incompletes.push(Incomplete {
             touch: entry.start,
             reason,
-            pence: maximum_at(schedule, start_of(entry, last)),
+            pence: start_of(entry, last).maximum(schedule),
         })?;
     }
     Ok(())

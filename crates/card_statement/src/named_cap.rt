@@ -6,9 +6,8 @@ ghost use Rattle.oyster_account.specs.Journey.{pence_of};
 ghost use Rattle.oyster_account.specs.Charge.{capped, day_charge};
 ghost use Rattle.card_statement.specs.NamedCap.{applied_cap};
 
-use crate::rules::is_covered;
 use fare_table::Cap;
-use oyster_account::Journey;
+use oyster_account::{Journey, is_covered};
 
 /// The charge for the journeys of one fare day under these caps, in pence.
 pub(crate) fn day_charge(caps: &[Cap], journeys: &[Journey]) -> u64

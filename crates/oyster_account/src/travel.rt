@@ -1,13 +1,15 @@
 //! A card's passages of the gates.
 
-ghost use Rattle.std.specs.Prelude.{◌≡◌, is_some, true};
+ghost use Rattle.std.specs.Prelude.{◌≡◌, ◌≤◌, is_some, true};
 ghost use Rattle.fare_table.specs.Fare.{station_at};
+ghost use Rattle.fare_table.specs.declared.key.TheConstants.{HIGHEST_PRICE};
 ghost use Rattle.fare_table.specs.Fares.{content_of};
 ghost use Rattle.fare_schedule.specs.Schedule.{table_on};
 ghost use Rattle.oyster_account.specs.Scheme.{scheme_of};
 ghost use Rattle.oyster_account.specs.Travel.{IsKnown};
 ghost use Rattle.oyster_account.specs.Leg.{is_within_minutes, is_in_time};
 ghost use Rattle.oyster_account.specs.Journey.{is_change};
+ghost use Rattle.oyster_account.specs.Charge.{maximum_at};
 ghost use Rattle.oyster_account.specs.Refusal.{is_before};
 
 use fare_schedule::Schedule;
@@ -35,7 +37,7 @@ impl Passage {
 
     /// Whether a touch out comes within the limit of a leg from this touch in. Both stations are
     /// known. The limit is that in force on the touch in's day.
-    pub(crate) fn is_in_time(self, schedule: &Schedule, finish: Passage) -> bool
+    pub fn is_in_time(self, schedule: &Schedule, finish: Passage) -> bool
         requires start { IsKnown (scheme_of schedule.now) self }
         requires finish { IsKnown (scheme_of schedule.now) finish }
         ensures { result ≡ is_in_time (scheme_of schedule.now) self finish }
@@ -47,7 +49,7 @@ impl Passage {
 
     /// Whether a touch in after this touch out is an interchange, by the table in force on the
     /// touch in's day.
-    pub(crate) fn is_change(self, schedule: &Schedule, start: Passage) -> bool
+    pub fn is_change(self, schedule: &Schedule, start: Passage) -> bool
         ensures { result ≡ is_change (scheme_of schedule.now) self start }
     {
         let fares = fares_for(schedule, start.stamp);
@@ -55,6 +57,14 @@ impl Passage {
             Some(minutes) => self.is_within_minutes(minutes, start),
             None => false,
         }
+    }
+
+    /// The maximum of the passage's window, in pence, by the table in force on its day.
+    pub fn maximum(self, schedule: &Schedule) -> u32
+        ensures value { result ≡ maximum_at (scheme_of schedule.now) self }
+        ensures limit { result ≤ HIGHEST_PRICE }
+    {
+        fares_for(schedule, self.stamp).maximum(self.stamp.window)
     }
 
     /// Whether a later passage has a moment or a fare day below this one's.

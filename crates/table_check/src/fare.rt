@@ -3,12 +3,12 @@
 ghost use Rattle.std.specs.Prelude.{◌≡◌, ◌⊎◌, None, Some, IsSome, IfOk, IfErr, map};
 ghost use Rattle.fare_table.specs.Fare.{station_at, stamp_of};
 ghost use Rattle.fare_table.specs.Fares.{content_of};
-ghost use Rattle.oyster_account.specs.Charge.{is_covered, least};
-ghost use Rattle.oyster_account.specs.Parts.{part_of};
+ghost use Rattle.oyster_account.specs.Charge.{least};
 ghost use Rattle.table_check.specs.Fare.{capped_by, IsQuoteOf, printed_quote, window_name};
 
 use fare_table::{Cap, Fare, Fares};
 use money_time::{Stamp, Window};
+use oyster_account::part_of;
 use std::fmt;
 
 /// What a journey costs by a fare table, and why. It prints as the lines of `check --fare`.
@@ -98,21 +98,7 @@ fn charge(caps: &[Cap], fare: Fare) -> u64
 fn capped(cap: Cap, fare: Fare) -> u64
     ensures { result ≡ capped_by fare cap }
 {
-    u64::from(cap.price) + u64::from(part(cap, fare))
-}
-
-/// What of a fare a cap doesn't cover: nothing or all of it.
-fn part(cap: Cap, fare: Fare) -> u32
-    ensures { result ≡ part_of cap fare }
-{
-    if is_covered(cap, fare) { 0 } else { fare.pence }
-}
-
-/// Whether a cap covers a journey of this fare.
-fn is_covered(cap: Cap, fare: Fare) -> bool
-    ensures { result ≡ is_covered cap fare }
-{
-    cap.lo <= fare.lo && fare.hi <= cap.hi && (!cap.off_peak || fare.off_peak)
+    u64::from(cap.price) + part_of(cap, fare)
 }
 
 impl fmt::Display for Quote {

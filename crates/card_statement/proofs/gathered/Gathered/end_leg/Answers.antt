@@ -7,8 +7,8 @@ use Rattle.card_statement.proofs.GatheredLemmas.{of-ended, start-known}
 use Rattle.card_statement.proofs.gathered.Gathered.end_leg.Goals as goal
 
 -- The journey starts at a known station.
-pub journey_of-requires-clause-start : goal.journey_of-requires-clause-start
-journey_of-requires-clause-start c =
+pub of-requires-clause-start : goal.of-requires-clause-start
+of-requires-clause-start c =
     let scheme = scheme_of c.args.schedule.now in
     subst (IsKnown scheme) (sym c.start_of-start.ensures)
     (start-known scheme c.args.entry c.args.self.now.last (c.requires.ready.entry c.args.entry c.requires.inside)
@@ -20,6 +20,6 @@ returns-clause-of c taps of =
     let scheme = scheme_of c.args.schedule.now in
     of-ended scheme taps c.args.self.now _ of c.args.finish c.args.entry c.requires.inside c.requires.in_time
     c.in_ok-settle.ensures.rows
-    (ap Some (c.journey_of.ensures
+    (ap Some (c.of.ensures.value
     ∙ ap (λ (start : Passage). journey_of scheme start c.args.finish) c.start_of-start.ensures))
     refl refl refl

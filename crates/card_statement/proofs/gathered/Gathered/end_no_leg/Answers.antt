@@ -14,13 +14,13 @@ returns-clause-of c taps of =
     of-missed scheme taps c.args.self.now _ of c.args.finish c.requires.late
     (c.in_ok-push.ensures.items
     ∙ ap (λ (l : List Incomplete). l
-    ++ record { touch = c.args.finish; reason = c.reason_after-reason.result; pence = c.maximum_at.result } ∷ [])
+    ++ record { touch = c.args.finish; reason = c.reason_after-reason.result; pence = c.maximum.result } ∷ [])
     c.in_ok-miss_entry.ensures.rows
     ∙ ap (λ (r : Reason). c.args.self.now.incompletes.items
     ++ entry_rows scheme c.args.self.now.last NotLeftInTime c.args.self.now.entry
-    ++ record { touch = c.args.finish; reason = r; pence = c.maximum_at.result } ∷ []) c.reason_after-reason.ensures
+    ++ record { touch = c.args.finish; reason = r; pence = c.maximum.result } ∷ []) c.reason_after-reason.ensures
     ∙ ap (λ (p : ℕ). c.args.self.now.incompletes.items
     ++ entry_rows scheme c.args.self.now.last NotLeftInTime c.args.self.now.entry
     ++ record { touch = c.args.finish; reason = reason_after c.args.self.now.entry; pence = p } ∷ [])
-    c.maximum_at.ensures)
+    c.maximum.ensures.value)
     refl refl refl refl
