@@ -18,8 +18,8 @@ use Rattle.door_clerk.specs.declared.bucket.TheConstants.{TICKS_PER_SECOND}
 use Rattle.door_clerk.specs.declared.reading.Clocks.{Clocks}
 use Rattle.door_clerk.specs.declared.reading.Standing.{Standing}
 use Rattle.door_clerk.specs.declared.reading.Standing.TheVariants.{Repeat, New}
-use Rattle.door_clerk.specs.declared.refusal.Refusal.{Refusal}
-use Rattle.door_clerk.specs.declared.refusal.Refusal.TheVariants.{Kind, Gate, Rate, Ahead, Reserve}
+use Rattle.door_clerk.specs.declared.refusal.DoorRefusal.{DoorRefusal}
+use Rattle.door_clerk.specs.declared.refusal.DoorRefusal.TheVariants.{Kind, Gate, Rate, Ahead, Reserve}
 use Rattle.door_clerk.specs.Rule.{Terms, is_near, leaves_reserve}
 use Rattle.door_clerk.specs.Bucket.{has_token, level_at, bucket_after}
 use Rattle.door_clerk.specs.Allowed.{IsAllowed, IsNamed, IsUnfitFor}
@@ -87,7 +87,7 @@ module _ {C : Type 0} (gives : C → Request → Answer → C → Type 0) (shows
   pub kept : (old new : DoorState C) (request : Request) (answer : Answer)
       → DoesAtDoor gives shows stands terms old request answer new
       → ((after : Bucket) → IsPassed shows stands terms old.bucket request after → ⊥)
-      → (refusal : Refusal) × IsStopped shows stands terms old.bucket request refusal
+      → (refusal : DoorRefusal) × IsStopped shows stands terms old.bucket request refusal
       × IsKeptOut old request answer new refusal
   kept old new request answer (inl (after, passed, through)) never = absurd (never after passed)
   kept old new request answer (inr stopped) never = stopped
@@ -190,7 +190,7 @@ any-room Repeat = refl
 any-room (New room) = refl
 
 -- every touch fits, however it stands
-none-unfit : (terms : Terms) (moment seconds : ℕ) (standing : Standing) (refusal : Refusal)
+none-unfit : (terms : Terms) (moment seconds : ℕ) (standing : Standing) (refusal : DoorRefusal)
     → AllowsAll terms → IsUnfitFor terms moment seconds standing refusal → ⊥
 none-unfit terms moment seconds standing Kind all is = is
 none-unfit terms moment seconds standing Gate all is = is
@@ -210,7 +210,7 @@ module _ {C : Type 0} (gives : C → Request → Answer → C → Type 0) (shows
     (stands : Touch → Standing → Type 0) (terms : Terms)
     (all : AllowsAll terms) where
   -- no request is stopped
-  none-stopped : (bucket : Bucket) (request : Request) (refusal : Refusal) → HasGate request
+  none-stopped : (bucket : Bucket) (request : Request) (refusal : DoorRefusal) → HasGate request
       → IsStopped shows stands terms bucket request refusal → ⊥
   none-stopped bucket (requests.Touch touch) Kind has is = let yes = all.kinds (requests.Touch touch) in cc
   none-stopped bucket (requests.Touch touch) Gate has is = let yes = all.gates touch.gate has in cc

@@ -19,7 +19,7 @@ use Rattle.door_clerk.specs.declared.bucket.TheConstants.{TICKS_PER_SECOND}
 use Rattle.door_clerk.specs.declared.reading.Clocks.{Clocks}
 use Rattle.door_clerk.specs.declared.reading.Standing.{Standing}
 use Rattle.door_clerk.specs.declared.reading.Standing.TheVariants.{Repeat, New}
-use Rattle.door_clerk.specs.declared.refusal.Refusal.TheVariants.{Kind, Gate, Ahead, Reserve}
+use Rattle.door_clerk.specs.declared.refusal.DoorRefusal.TheVariants.{Kind, Gate, Ahead, Reserve}
 use Rattle.door_clerk.specs.Rule.{Terms, allows_act, allows_gate, allows_kind, is_near, leaves_reserve}
 use Rattle.door_clerk.specs.Bucket.{burst_of, has_token, level_at, bucket_after, merged_bucket}
 use Rattle.door_clerk.specs.Allowed.{IsAllowed, IsBarredFor, IsTooFast, IsUnfitFor}

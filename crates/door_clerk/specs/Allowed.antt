@@ -5,8 +5,9 @@ use Rattle.oyster_account.specs.Touch.{moment_of}
 use Rattle.door_clerk.specs.declared.bucket.Bucket.{Bucket}
 use Rattle.door_clerk.specs.declared.reading.Clocks.{Clocks}
 use Rattle.door_clerk.specs.declared.reading.Standing.{Standing}
-use Rattle.door_clerk.specs.declared.refusal.Refusal.{Refusal}
-use Rattle.door_clerk.specs.declared.refusal.Refusal.TheVariants.{Kind, Gate, Rate, Ahead, Reserve}
+use Rattle.door_clerk.specs.declared.refusal.DoorRefusal.{DoorRefusal}
+use Rattle.door_clerk.specs.declared.refusal.DoorRefusal.TheVariants.{Kind, Gate, Rate, Ahead}
+use Rattle.door_clerk.specs.declared.refusal.DoorRefusal.TheVariants.{Reserve}
 use Rattle.door_clerk.specs.Rule.{Terms, allows_act, allows_gate, is_near, leaves_reserve}
 use Rattle.door_clerk.specs.Bucket.{has_token, bucket_after}
 
@@ -28,7 +29,7 @@ pub record IsAllowed (terms : Terms) (bucket : Bucket) (touch : Touch) (clocks :
   pub fits : IsFitting terms (moment_of touch.act) clocks.seconds standing
 
 -- this is the first reason why the touch is never allowed, whatever is read
-abbrev pub IsBarredFor : Terms → Touch → Refusal → Type 0
+abbrev pub IsBarredFor : Terms → Touch → DoorRefusal → Type 0
 IsBarredFor terms touch Kind = allows_act terms.kinds touch.act ≡ false
 IsBarredFor terms touch Gate =
     (allows_act terms.kinds touch.act ≡ true) × (allows_gate terms.gates touch.gate ≡ false)
@@ -37,7 +38,7 @@ IsBarredFor terms touch Ahead = ⊥
 IsBarredFor terms touch Reserve = ⊥
 
 -- this is the first reason why a touch of this moment isn't allowed as it stands
-abbrev pub IsUnfitFor : Terms → ℕ → ℕ → Standing → Refusal → Type 0
+abbrev pub IsUnfitFor : Terms → ℕ → ℕ → Standing → DoorRefusal → Type 0
 IsUnfitFor terms moment seconds standing Kind = ⊥
 IsUnfitFor terms moment seconds standing Gate = ⊥
 IsUnfitFor terms moment seconds standing Rate = ⊥
@@ -73,7 +74,7 @@ module _ (shows : Clocks → Type 0) (stands : Touch → Standing → Type 0) (t
     pub token : has_token terms.rate bucket clocks.ticks ≡ false
 
   -- there is a token for the touch, but it isn't allowed as it stands, for this reason
-  pub record IsUnfit (refusal : Refusal) : Type 0 where
+  pub record IsUnfit (refusal : DoorRefusal) : Type 0 where
     pub clocks : Clocks
     pub shown : shows clocks
     pub named : IsNamed terms touch
@@ -83,7 +84,7 @@ module _ (shows : Clocks → Type 0) (stands : Touch → Standing → Type 0) (t
     pub unfit : IsUnfitFor terms (moment_of touch.act) clocks.seconds standing refusal
 
   -- the touch isn't allowed, first of all for this reason
-  abbrev pub IsRefusedFor : Refusal → Type 0
+  abbrev pub IsRefusedFor : DoorRefusal → Type 0
   IsRefusedFor Kind = IsBarredFor terms touch Kind
   IsRefusedFor Gate = IsBarredFor terms touch Gate
   IsRefusedFor Rate = IsTooFast

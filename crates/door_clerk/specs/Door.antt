@@ -11,8 +11,8 @@ use Rattle.gate_session.specs.Answers.{fault_code}
 use Rattle.door_clerk.specs.declared.bucket.Bucket.{Bucket}
 use Rattle.door_clerk.specs.declared.reading.Clocks.{Clocks}
 use Rattle.door_clerk.specs.declared.reading.Standing.{Standing}
-use Rattle.door_clerk.specs.declared.refusal.Refusal.{Refusal}
-use Rattle.door_clerk.specs.declared.refusal.Refusal.TheVariants.{Kind}
+use Rattle.door_clerk.specs.declared.refusal.DoorRefusal.{DoorRefusal}
+use Rattle.door_clerk.specs.declared.refusal.DoorRefusal.TheVariants.{Kind}
 use Rattle.door_clerk.specs.Rule.{Terms}
 use Rattle.door_clerk.specs.Allowed.{IsAdmitted, IsRefusedFor}
 
@@ -28,11 +28,11 @@ refusal_of (requests.Enquire card) = not_allowed 0 0
 -- what a door has: its bucket, why the last request was kept out, if it was, and the clerk behind
 pub record DoorState (C : Type 0) : Type 0 where
   pub bucket : Bucket
-  pub last : Option Refusal
+  pub last : Option DoorRefusal
   pub clerk : C
 
 -- a door that has these
-abbrev pub door_state : {C : Type 0} → Bucket → Option Refusal → C → DoorState C
+abbrev pub door_state : {C : Type 0} → Bucket → Option DoorRefusal → C → DoorState C
 door_state bucket last clerk = record { bucket = bucket; last = last; clerk = clerk }
 
 -- the request is answered as the clerk behind answers it, and the door then has this bucket
@@ -45,7 +45,7 @@ pub record IsLetThrough {C : Type 0} (gives : C → Request → Answer → C →
 
 -- the request is answered by the fault of one that isn't allowed, and nothing else is done
 pub record IsKeptOut {C : Type 0} (old : DoorState C) (request : Request) (answer : Answer)
-    (new : DoorState C) (refusal : Refusal) : Type 0 where
+    (new : DoorState C) (refusal : DoorRefusal) : Type 0 where
   pub is : answer ≡ refusal_of request
   pub clerk : new.clerk ≡ old.clerk
   pub bucket : new.bucket ≡ old.bucket
@@ -61,7 +61,7 @@ IsPassed shows stands terms bucket (requests.Enquire card) after =
 
 -- the request isn't allowed, for this reason
 abbrev pub IsStopped : (Clocks → Type 0) → (Touch → Standing → Type 0) → Terms → Bucket → Request
-    → Refusal → Type 0
+    → DoorRefusal → Type 0
 IsStopped shows stands terms bucket (requests.Touch touch) refusal =
     IsRefusedFor shows stands terms bucket touch refusal
 IsStopped shows stands terms bucket (requests.Enquire card) refusal =
@@ -74,5 +74,5 @@ abbrev pub DoesAtDoor : {C : Type 0} → (C → Request → Answer → C → Typ
 DoesAtDoor gives shows stands terms old request answer new =
     ((after : Bucket) × IsPassed shows stands terms old.bucket request after
     × IsLetThrough gives old request answer new after)
-    ⊎ ((refusal : Refusal) × IsStopped shows stands terms old.bucket request refusal
+    ⊎ ((refusal : DoorRefusal) × IsStopped shows stands terms old.bucket request refusal
     × IsKeptOut old request answer new refusal)

@@ -10,7 +10,7 @@ use Rattle.door_clerk.specs.declared.bucket.TheConstants.{TICKS_PER_SECOND}
 use Rattle.door_clerk.specs.declared.rule.Rate.{Rate}
 use Rattle.door_clerk.specs.declared.reading.Clocks.{Clocks}
 use Rattle.door_clerk.specs.declared.reading.Standing.{Standing}
-use Rattle.door_clerk.specs.declared.refusal.Refusal.{Refusal}
+use Rattle.door_clerk.specs.declared.refusal.DoorRefusal.{DoorRefusal}
 use Rattle.door_clerk.specs.Rule.{Terms}
 use Rattle.door_clerk.specs.Door.{DoorState, IsPassed, IsStopped, refusal_of}
 
@@ -21,7 +21,7 @@ abbrev pub AreSorted : (Clocks → Type 0) → (Touch → Standing → Type 0) �
 AreSorted shows stands terms bucket [] [] through replies last =
     (through ≡ []) × (replies ≡ []) × (last ≡ bucket)
 AreSorted shows stands terms bucket (request ∷ requests) (answer ∷ answers) through replies last =
-    ((refusal : Refusal) × IsStopped shows stands terms bucket request refusal
+    ((refusal : DoorRefusal) × IsStopped shows stands terms bucket request refusal
     × (answer ≡ refusal_of request)
     × AreSorted shows stands terms bucket requests answers through replies last)
     ⊎ ((after : Bucket) × (more : List Request) × (rest : List Answer)

@@ -6,7 +6,7 @@ ghost use Rattle.door_clerk.specs.Door.{DoesAtDoor, not_allowed, door_state};
 
 use crate::bucket::Bucket;
 use crate::reading::Clocks;
-use crate::refusal::Refusal;
+use crate::refusal::DoorRefusal;
 use crate::rule::Rule;
 use crate::surroundings::Surroundings;
 use gate_session::{Answer, Clerk, FaultCode};
@@ -26,7 +26,7 @@ pub struct DoorClerk<'a, C, S> {
     /// How many touches may still come at once. Give it to the name's next connection.
     pub bucket: Bucket,
     /// Why the last request was kept out, if it was.
-    pub last: Option<Refusal>,
+    pub last: Option<DoorRefusal>,
     /// The clocks and the history.
     pub surroundings: S,
     /// The clerk behind the door.
@@ -59,7 +59,7 @@ impl<C: Clerk, S: Surroundings> Clerk for DoorClerk<'_, C, S> {
             self.last = None;
             self.behind.enquire(card)
         } else {
-            self.last = Some(Refusal::Kind);
+            self.last = Some(DoorRefusal::Kind);
             kept_out(0, 0)
         }
     }
@@ -67,7 +67,7 @@ impl<C: Clerk, S: Surroundings> Clerk for DoorClerk<'_, C, S> {
 
 impl<C, S: Surroundings> DoorClerk<'_, C, S> {
     /// The bucket after a touch that is allowed, or why it isn't.
-    fn decide<R: Wait>(&self, rt: &R, touch: &Touch) -> Result<Bucket, Refusal>
+    fn decide<R: Wait>(&self, rt: &R, touch: &Touch) -> Result<Bucket, DoorRefusal>
         ensures ok { IfOk result (IsAdmitted (S.shows self.now.surroundings)
             (S.stands self.now.surroundings) (terms_of self.now.rule.now) self.now.bucket
             touch.now) }

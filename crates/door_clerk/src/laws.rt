@@ -8,7 +8,7 @@ ghost use Rattle.door_clerk.specs.declared.bucket.Bucket.{Bucket};
 ghost use Rattle.door_clerk.specs.declared.reading.Clocks.{Clocks};
 ghost use Rattle.door_clerk.specs.declared.reading.Standing.{Standing};
 ghost use Rattle.door_clerk.specs.declared.reading.Standing.TheVariants.{Repeat};
-ghost use Rattle.door_clerk.specs.declared.refusal.Refusal.{Refusal};
+ghost use Rattle.door_clerk.specs.declared.refusal.DoorRefusal.{DoorRefusal};
 ghost use Rattle.door_clerk.specs.declared.rule.Rate.{Rate};
 ghost use Rattle.door_clerk.specs.Rule.{Terms};
 ghost use Rattle.door_clerk.specs.Bucket.{has_token};
@@ -50,7 +50,7 @@ pub fn a_request_is_kept_out<C: Clerk, S: Surroundings>()
         → DoesAtDoor C.gives (S.shows round) (S.stands round) terms old request answer new
         → ((after : Bucket)
         → IsPassed (S.shows round) (S.stands round) terms old.bucket request after → ⊥)
-        → (refusal : Refusal)
+        → (refusal : DoorRefusal)
         × IsStopped (S.shows round) (S.stands round) terms old.bucket request refusal
         × IsKeptOut old request answer new refusal }
 {}

@@ -20,7 +20,7 @@ pub use laws::{
     sessions_are_sorted, the_rate_is_kept,
 };
 pub use reading::{Clocks, Standing};
-pub use refusal::Refusal;
+pub use refusal::DoorRefusal;
 pub use rule::{GateRange, Kinds, Rate, Rule};
 pub use session::serve_at_door;
 pub use surroundings::Surroundings;

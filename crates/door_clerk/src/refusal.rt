@@ -3,7 +3,7 @@
 /// Which part of a rule refused a request. Where several parts would refuse it, this is the first
 /// of them, in the order of the variants.
 #[derive(Clone, Copy, Debug, PartialEq, Eq)]
-pub enum Refusal {
+pub enum DoorRefusal {
     /// Requests of this kind are not allowed.
     Kind,
     /// The touch has a gate number that is in no range of the rule.

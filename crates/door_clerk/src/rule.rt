@@ -2,7 +2,7 @@
 ghost use Rattle.std.specs.Prelude.{◌≡◌, ◌&&◌, nat_eq, true, false, IfOk, IfErr, OnOk};
 ghost use Rattle.std.specs.Bool.{OnTrue};
 ghost use Rattle.door_clerk.specs.declared.reading.Standing.{Standing};
-ghost use Rattle.door_clerk.specs.declared.refusal.Refusal.TheVariants as refusals;
+ghost use Rattle.door_clerk.specs.declared.refusal.DoorRefusal.TheVariants as refusals;
 ghost use Rattle.door_clerk.specs.Rule.{allows_act, allows_gate, allows_kind, is_in_time};
 ghost use Rattle.door_clerk.specs.Rule.{is_within, terms_of};
 ghost use Rattle.door_clerk.specs.Allowed.{IsBarredFor, IsFitting, IsNamed, IsUnfitFor};
@@ -10,7 +10,7 @@ ghost use Rattle.door_clerk.specs.Bucket.{bucket_after, has_token};
 
 use crate::bucket::Bucket;
 use crate::reading::Standing;
-use crate::refusal::Refusal;
+use crate::refusal::DoorRefusal;
 use gate_session::Request;
 use oyster_account::{Act, Touch};
 
@@ -113,15 +113,15 @@ impl Rule {
     /// Whether a touch is of an allowed kind and gate number. What else is read doesn't count.
     ///
     /// `Kind` comes first, and then `Gate`.
-    pub fn check_name(&self, touch: &Touch) -> Result<(), Refusal>
+    pub fn check_name(&self, touch: &Touch) -> Result<(), DoorRefusal>
         ensures ok { OnOk result (IsNamed (terms_of self.now) touch.now) }
         ensures err { IfErr result (IsBarredFor (terms_of self.now) touch.now) }
     {
         if !self.kinds.allow_act(&touch.act) {
-            return Err(Refusal::Kind);
+            return Err(DoorRefusal::Kind);
         }
         if !self.allows_gate(touch.gate) {
-            return Err(Refusal::Gate);
+            return Err(DoorRefusal::Gate);
         }
         Ok(())
     }
@@ -130,7 +130,7 @@ impl Rule {
     /// after it.
     ///
     /// The only fault is `Rate`.
-    pub fn check_rate(&self, bucket: &Bucket, ticks: u64) -> Result<Bucket, Refusal>
+    pub fn check_rate(&self, bucket: &Bucket, ticks: u64) -> Result<Bucket, DoorRefusal>
         ensures ok { OnOk result (has_token self.now.rate bucket.now ticks ≡ true) }
         ensures bucket { IfOk result
             (λ after. after ≡ bucket_after self.now.rate bucket.now ticks) }
@@ -140,7 +140,7 @@ impl Rule {
         if bucket.has_token(self.rate, ticks) {
             Ok(bucket.after(self.rate, ticks))
         } else {
-            Err(Refusal::Rate)
+            Err(DoorRefusal::Rate)
         }
     }
 
@@ -153,7 +153,7 @@ impl Rule {
         moment: u32,
         seconds: u64,
         standing: Standing,
-    ) -> Result<(), Refusal>
+    ) -> Result<(), DoorRefusal>
         ensures ok { OnOk result (IsFitting (terms_of self.now) moment seconds standing) }
         ensures err { IfErr result (IsUnfitFor (terms_of self.now) moment seconds standing) }
     {
@@ -161,10 +161,10 @@ impl Rule {
             return Ok(());
         };
         if !self.is_in_time(moment, seconds) {
-            return Err(Refusal::Ahead);
+            return Err(DoorRefusal::Ahead);
         }
         if self.reserved > 0 && room <= self.reserved {
-            return Err(Refusal::Reserve);
+            return Err(DoorRefusal::Reserve);
         }
         Ok(())
     }

@@ -1,6 +1,6 @@
 //! Why a server's door kept something out.
 
-use door_clerk::Refusal;
+use door_clerk::DoorRefusal;
 use std::fmt::Display;
 use std::fmt;
 
@@ -23,14 +23,14 @@ pub enum Reason {
     Rule,
 }
 
-impl From<Refusal> for Reason {
-    fn from(refusal: Refusal) -> Reason {
+impl From<DoorRefusal> for Reason {
+    fn from(refusal: DoorRefusal) -> Reason {
         match refusal {
-            Refusal::Kind => Reason::Kind,
-            Refusal::Gate => Reason::Gate,
-            Refusal::Rate => Reason::Rate,
-            Refusal::Ahead => Reason::Ahead,
-            Refusal::Reserve => Reason::Reserve,
+            DoorRefusal::Kind => Reason::Kind,
+            DoorRefusal::Gate => Reason::Gate,
+            DoorRefusal::Rate => Reason::Rate,
+            DoorRefusal::Ahead => Reason::Ahead,
+            DoorRefusal::Reserve => Reason::Reserve,
         }
     }
 }

@@ -15,7 +15,7 @@ use Rattle.oyster_account.proofs.CallerLemmas.{accepted-of_card}
 use Rattle.card_statement.specs.Known.{IsActKnown, AreStationsKnown}
 use Rattle.card_statement.specs.Statement.{statement_of}
 use Rattle.statement_command.specs.declared.days.Days.{Days}
-use Rattle.statement_command.specs.declared.line.Refusal.{Refusal}
+use Rattle.statement_command.specs.declared.line.RefusedTouch.{RefusedTouch}
 use Rattle.statement_command.specs.Lines.{lines_back}
 use Rattle.statement_command.specs.Card.{refusal_of, refusals_of, lines_of}
 
@@ -67,7 +67,7 @@ module _ (scheme : Scheme) (card : ℕ) where
         | inr other ↦
             ap (filter_map (refusal_of scheme card)) (cond-false (is_of card judged.touch) (judged ∷ rest) rest other)
             ∙ found-own history
-            ∙ sym (ap (λ (o : Option Refusal). cons_option o (filter_map (refusal_of scheme card) history))
+            ∙ sym (ap (λ (o : Option RefusedTouch). cons_option o (filter_map (refusal_of scheme card) history))
             (not-own judged other))
       ]
 
@@ -77,5 +77,5 @@ module _ (scheme : Scheme) (card : ℕ) where
   lines-of_card days history =
       ap (λ (acts : List Act). reverse (lines_back card days (statement_of scheme acts)
       (refusals_of scheme card (of_card card history)))) (accepted-of_card card history)
-      ∙ ap (λ (refusals : List Refusal). reverse (lines_back card days (statement_of scheme (accepted card history))
-      (reverse refusals))) (found-own history)
+      ∙ ap (λ (refusals : List RefusedTouch). reverse (lines_back card days
+      (statement_of scheme (accepted card history)) (reverse refusals))) (found-own history)

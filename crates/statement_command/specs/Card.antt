@@ -11,7 +11,7 @@ use Rattle.command_line.specs.declared.statement.StatementFormat.{StatementForma
 use Rattle.command_line.specs.declared.statement.StatementFormat.TheVariants.{Text, Csv, Json}
 use Rattle.statement_command.specs.declared.days.Days.{Days}
 use Rattle.statement_command.specs.declared.line.Line.{Line}
-use Rattle.statement_command.specs.declared.line.Refusal.{Refusal}
+use Rattle.statement_command.specs.declared.line.RefusedTouch.{RefusedTouch}
 use Rattle.statement_command.specs.Lines.{lines_back}
 use Rattle.statement_command.specs.Csv.{csv_text}
 
@@ -20,7 +20,7 @@ abbrev pub is_refusal : ℕ → Judged → Bool
 is_refusal card judged = is_of card judged.touch && not (is_accepted judged.reply)
 
 -- the refusal of a touch of the card, if it was refused
-abbrev pub refusal_of : Scheme → ℕ → Judged → Option Refusal
+abbrev pub refusal_of : Scheme → ℕ → Judged → Option RefusedTouch
 refusal_of scheme card judged =
     if is_refusal card judged then Some (record {
       act = judged.touch.act;
@@ -30,7 +30,7 @@ refusal_of scheme card judged =
     else None
 
 -- those of a history, newest first
-abbrev pub refusals_of : Scheme → ℕ → List Judged → List Refusal
+abbrev pub refusals_of : Scheme → ℕ → List Judged → List RefusedTouch
 refusals_of scheme card history = reverse (filter_map (refusal_of scheme card) history)
 
 -- the lines of the statement of a card after this history, in their order

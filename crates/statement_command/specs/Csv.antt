@@ -12,7 +12,7 @@ use Rattle.journal_audit.specs.HistoryRow.{verdict_field}
 use Rattle.statement_command.specs.declared.line.Line.{Line}
 use Rattle.statement_command.specs.declared.line.Line.TheVariants as lines
 use Rattle.statement_command.specs.declared.line.Sums.{Sums}
-use Rattle.statement_command.specs.declared.line.Refusal.{Refusal}
+use Rattle.statement_command.specs.declared.line.RefusedTouch.{RefusedTouch}
 use Rattle.statement_command.specs.Words.{band_word, cap_word, covered_word, reason_word}
 use Rattle.statement_command.specs.Words.{sign_word, balance_pence}
 
@@ -109,7 +109,7 @@ refused_station (Issue moment) = []
 refused_station (Revise day moment digest) = []
 
 -- the row of a refused touch
-abbrev pub refused_row : Refusal → List ℕ
+abbrev pub refused_row : RefusedTouch → List ℕ
 refused_row refusal =
     csv_row (codes "refused") (Some refusal.stamp.day)
     (refused_pence refusal.act ++ (codes ",,," ++ (verdict_field refusal.verdict

@@ -11,7 +11,7 @@ use Rattle.statement_command.specs.declared.days.Days.{Days}
 use Rattle.statement_command.specs.declared.line.Line.{Line}
 use Rattle.statement_command.specs.declared.line.Line.TheVariants as lines
 use Rattle.statement_command.specs.declared.line.Sums.{Sums}
-use Rattle.statement_command.specs.declared.line.Refusal.{Refusal}
+use Rattle.statement_command.specs.declared.line.RefusedTouch.{RefusedTouch}
 use Rattle.statement_command.specs.Days.{has_day, is_before_first, is_up_to_last}
 
 -- what the rows of a statement charge and pay in can be summed in 64 bits
@@ -45,7 +45,7 @@ abbrev pub is_top_up_of : Days → TopUp → Bool
 is_top_up_of days top_up = has_day days top_up.stamp.day
 
 -- so is a refused touch
-abbrev pub is_refusal_of : Days → Refusal → Bool
+abbrev pub is_refusal_of : Days → RefusedTouch → Bool
 is_refusal_of days refusal = has_day days refusal.stamp.day
 
 -- the line of a top-up of a fare day that is asked for, and none of any other
@@ -53,7 +53,7 @@ abbrev pub top_up_back : Days → TopUp → List Line
 top_up_back days top_up = if is_top_up_of days top_up then lines.TopUp top_up ∷ [] else []
 
 -- so it is of a refused touch
-abbrev pub refusal_back : Days → Refusal → List Line
+abbrev pub refusal_back : Days → RefusedTouch → List Line
 refusal_back days refusal =
     if is_refusal_of days refusal then lines.Refused refusal ∷ [] else []
 
@@ -64,7 +64,7 @@ top_ups_back days top_ups =
     ++ lines.TopUps (list_any (is_top_up_of days) top_ups) ∷ []
 
 -- those of the refused touches, last one first
-unfoldable pub refusals_back : Days → List Refusal → List Line
+unfoldable pub refusals_back : Days → List RefusedTouch → List Line
 refusals_back days refusals =
     flat_map (refusal_back days) refusals
     ++ lines.Refusals (list_any (is_refusal_of days) refusals) ∷ []
@@ -111,7 +111,7 @@ heading_back card days content =
     lines.Before (before days content days.from) ∷ lines.Card card days ∷ []
 
 -- all lines of the statement of a card, last one first
-unfoldable pub lines_back : ℕ → Days → StatementContent → List Refusal → List Line
+unfoldable pub lines_back : ℕ → Days → StatementContent → List RefusedTouch → List Line
 lines_back card days content refusals =
     totals_back days content
     ++ (refusals_back days refusals

@@ -11,7 +11,7 @@ ghost use Rattle.statement_command.specs.Card.{is_refusal, refusal_of, refusals_
 ghost use Rattle.statement_command.specs.Card.{lines_of, IsPrinted};
 
 use crate::days::Days;
-use crate::line::{Line, Refusal};
+use crate::line::{Line, RefusedTouch};
 use crate::lines::lines_back;
 use crate::printing::printed;
 use card_statement::Statement;
@@ -66,7 +66,7 @@ fn refusals_of(
     schedule: &Schedule,
     card: u32,
     touches: &[Judged],
-) -> Result<Vec<Refusal>, AllocError>
+) -> Result<Vec<RefusedTouch>, AllocError>
     ensures { IfOk result (λ refusals. refusals.items
         ≡ refusals_of (scheme_of schedule.now) card touches.now) }
 {
@@ -85,14 +85,14 @@ fn refusal_of(
     schedule: &Schedule,
     card: u32,
     judged: &Judged,
-) -> Result<Option<Refusal>, AllocError>
+) -> Result<Option<RefusedTouch>, AllocError>
     ensures { IfOk result (λ refusal. refusal
         ≡ refusal_of (scheme_of schedule.now) card judged.now) }
 {
     if !is_refusal(card, judged) {
         return Ok(None);
     }
-    Ok(Some(Refusal {
+    Ok(Some(RefusedTouch {
         act: judged.touch.act,
         stamp: schedule.stamp(judged.touch.moment())?,
         verdict: judged.reply.verdict,

@@ -9,7 +9,7 @@ ghost use Rattle.statement_command.specs.Csv.{refused_station, journey_middle, c
 ghost use Rattle.statement_command.specs.Csv.{touch_middle};
 ghost use Rattle.statement_command.specs.Words.{sign_word, balance_pence};
 
-use crate::line::{Line, Refusal, Sums};
+use crate::line::{Line, RefusedTouch, Sums};
 use crate::put::Printed;
 use crate::words::{balance_pence, band_word, cap_word, covered_word, reason_word, sign_word};
 use card_statement::{Incomplete, JourneyRow};
@@ -240,7 +240,7 @@ fn touch_middle(alloc: Global, row: Incomplete) -> Result<String, AllocError>
 }
 
 /// Adds the row of a refused touch.
-fn put_refused(alloc: Global, out: &mut Printed, refusal: &Refusal) -> Result<(), AllocError>
+fn put_refused(alloc: Global, out: &mut Printed, refusal: &RefusedTouch) -> Result<(), AllocError>
     ensures { OnOk result (out.new.text.items ≡ out.old.text.items ++ refused_row refusal.now) }
 {
     let pence = refused_pence(alloc, &refusal.act)?;

@@ -2,7 +2,7 @@
 //! the line before it: the first item follows the line that begins the list.
 
 use crate::days::Days;
-use crate::line::{Line, Refusal, Sums};
+use crate::line::{Line, RefusedTouch, Sums};
 use crate::put::Printed;
 use crate::station::name_of;
 use crate::text::clock_of;
@@ -286,7 +286,7 @@ fn put_top_up(alloc: Global, out: &mut Printed, row: TopUp) -> Result<(), AllocE
 }
 
 /// Adds a refused touch.
-fn put_refused(alloc: Global, out: &mut Printed, refusal: &Refusal) -> Result<(), AllocError> {
+fn put_refused(alloc: Global, out: &mut Printed, refusal: &RefusedTouch) -> Result<(), AllocError> {
     out.put("{\"day\":\"")?;
     out.put_day(refusal.stamp.day)?;
     out.put("\",\"moment\":\"")?;

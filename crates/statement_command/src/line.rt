@@ -34,7 +34,7 @@ pub enum Line {
     /// The beginning of the refused touches, and whether there are any.
     Refusals(bool),
     /// A refused touch.
-    Refused(Refusal),
+    Refused(RefusedTouch),
     /// The sum of all top-ups up to the last day.
     PaidIn(u64),
     /// The sum of the charges of all days up to the last.
@@ -53,7 +53,7 @@ pub struct Sums {
 
 /// A touch of the card that was refused.
 #[derive(Clone, Copy)]
-pub struct Refusal {
+pub struct RefusedTouch {
     pub act: Act,
     pub stamp: Stamp,
     /// The code of the verdict.

@@ -14,7 +14,7 @@ ghost use Rattle.statement_command.specs.Lines.{paid_up_to, paid_before};
 ghost use Rattle.statement_command.specs.declared.line.Line.TheVariants.{Touch, Journey};
 
 use crate::days::Days;
-use crate::line::{Line, Refusal, Sums};
+use crate::line::{Line, RefusedTouch, Sums};
 use card_statement::{Day, Incomplete, JourneyRow, Statement, TopUp};
 use std::alloc::{AllocError, Global};
 
@@ -26,7 +26,7 @@ pub(crate) fn lines_back(
     card: u32,
     days: Days,
     statement: &Statement,
-    refusals: &[Refusal],
+    refusals: &[RefusedTouch],
 ) -> Result<Vec<Line>, AllocError>
     requires limit { IsSummable statement.now }
     ensures { IfOk result (λ lines. lines.items
@@ -58,7 +58,11 @@ fn add_totals(lines: &mut Vec<Line>, days: Days, statement: &Statement) -> Resul
 
 /// Adds the lines of the refused touches.
 #[tactic(auto, unfolding(crate::specs::Lines::refusals_back))]
-fn add_refusals(lines: &mut Vec<Line>, days: Days, refusals: &[Refusal]) -> Result<(), AllocError>
+fn add_refusals(
+    lines: &mut Vec<Line>,
+    days: Days,
+    refusals: &[RefusedTouch],
+) -> Result<(), AllocError>
     ensures { OnOk result (lines.new.items ≡ lines.old.items ++ refusals_back days refusals.now) }
 {
     for refusal in refusals {
@@ -69,7 +73,7 @@ fn add_refusals(lines: &mut Vec<Line>, days: Days, refusals: &[Refusal]) -> Resu
 }
 
 /// Adds the line of a refused touch, if its fare day is asked for.
-fn add_refusal(lines: &mut Vec<Line>, days: Days, refusal: Refusal) -> Result<(), AllocError>
+fn add_refusal(lines: &mut Vec<Line>, days: Days, refusal: RefusedTouch) -> Result<(), AllocError>
     ensures { OnOk result (lines.new.items ≡ lines.old.items ++ refusal_back days refusal) }
 {
     if days.has(refusal.stamp.day) {
@@ -79,7 +83,7 @@ fn add_refusal(lines: &mut Vec<Line>, days: Days, refusal: Refusal) -> Result<()
 }
 
 /// Whether a refused touch is on a fare day that is asked for.
-fn has_refusal(days: Days, refusals: &[Refusal]) -> bool
+fn has_refusal(days: Days, refusals: &[RefusedTouch]) -> bool
     ensures { result ≡ list_any (is_refusal_of days) refusals.now }
 {
     refusals.iter().any(|refusal| days.has(refusal.stamp.day))

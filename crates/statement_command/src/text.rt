@@ -1,6 +1,6 @@
 //! A statement as text for a customer: a line for each row, with amounts in pounds.
 
-use crate::line::{Line, Refusal, Sums};
+use crate::line::{Line, RefusedTouch, Sums};
 use crate::put::Printed;
 use crate::station::shown_station;
 use crate::words::{balance_pence, band_word, cap_word, sign_word};
@@ -243,7 +243,7 @@ fn put_refused(
     alloc: Global,
     schedule: &Schedule,
     out: &mut Printed,
-    refusal: &Refusal,
+    refusal: &RefusedTouch,
 ) -> Result<(), AllocError> {
     out.put("            ")?;
     put_when(alloc, out, refusal.stamp)?;
@@ -259,7 +259,7 @@ fn put_act(
     alloc: Global,
     schedule: &Schedule,
     out: &mut Printed,
-    refusal: &Refusal,
+    refusal: &RefusedTouch,
 ) -> Result<(), AllocError> {
     match refusal.act {
         Act::Enter { station, .. } => {

@@ -11,7 +11,7 @@ ghost use Rattle.tap_office.specs.Opening.{AreNewDesks, IsShort};
 
 use crate::name::Named;
 use crate::receipt::Receipt;
-use crate::refusal::Refusal;
+use crate::refusal::SubmitRefusal;
 use reply_book::Book;
 use std::alloc::Global;
 use std::marker::Model;
@@ -68,7 +68,7 @@ impl<N: Named> Desk<N> {
 
     /// Adds the refusal's log point to the desk's, as `learn` does. The refusal's fault is read
     /// before.
-    pub fn learn_refusal(&mut self, refusal: Refusal<N>)
+    pub fn learn_refusal(&mut self, refusal: SubmitRefusal<N>)
         ensures list { self.new.list ≡ self.old.list }
         ensures points { self.new.points ≡ logged_at refusal.point ∷ self.old.points }
     {

@@ -17,7 +17,7 @@ use crate::fault::CloseCause;
 use crate::keeper::Keeper;
 use crate::name::Named;
 use crate::receipt::Receipt;
-use crate::refusal::Refusal;
+use crate::refusal::SubmitRefusal;
 use crate::seat::Seat;
 use crate::sync_times;
 use oyster_account::Touch;
@@ -87,7 +87,7 @@ impl<N: Named, D: Disk> Office<N, D> {
         rt: &R,
         seat: &mut Seat<N>,
         touch: Touch,
-    ) -> Result<Receipt<N>, Refusal<N>>
+    ) -> Result<Receipt<N>, SubmitRefusal<N>>
         ensures files { IfOk result (Files touch seat.old seat.new) }
         ensures point { IfOk result (λ r. IsPoint N.opened (logged_at r.point) r) }
         ensures cause { IfErr result (λ r. IsRefusedAt N.opened touch (logged_at r.point) r.fault) }
@@ -175,7 +175,7 @@ impl<N: Named, D: Disk> Office<N, D> {
 }
 
 /// Whether a touch was committed that is new: the disk was called for it.
-fn is_fresh<N: Named>(answer: &Result<Receipt<N>, Refusal<N>>) -> bool {
+fn is_fresh<N: Named>(answer: &Result<Receipt<N>, SubmitRefusal<N>>) -> bool {
     match answer {
         Ok(receipt) => receipt.fresh,
         Err(_) => false,

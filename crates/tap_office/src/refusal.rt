@@ -20,7 +20,7 @@ use tap_disk::Disk;
 ///
 /// A desk can learn it (`Desk::learn_refusal`), and then answers of no less than there was here.
 #[derive(Drop)]
-pub struct Refusal<N: Named> {
+pub struct SubmitRefusal<N: Named> {
     /// Why the touch was not committed.
     pub fault: SubmitFault,
     /// What was published then.
@@ -36,7 +36,7 @@ impl<N: Named, D: Disk> Keeper<N, D> {
         seat: &mut Seat<N>,
         touch: Touch,
         next: F,
-    ) -> Result<Receipt<N>, Refusal<N>>
+    ) -> Result<Receipt<N>, SubmitRefusal<N>>
         requires { F.IsAlwaysCallable next }
         ensures files { IfOk result (Files touch seat.old seat.new) }
         ensures point { IfOk result (λ r. IsPoint N.opened (logged_at r.point) r) }
@@ -50,13 +50,13 @@ impl<N: Named, D: Disk> Keeper<N, D> {
     }
 
     /// The refusal for this fault, with the log point of the history.
-    fn refused(&self, fault: SubmitFault) -> Refusal<N>
+    fn refused(&self, fault: SubmitFault) -> SubmitRefusal<N>
         ensures fault { result.fault ≡ fault }
         ensures point { logged_at result.point ≡ self.now.history }
         ensures legal { IsLegalFor N.opened (history_of self.now.history) }
         ensures begins { take (length N.opened.recovered) self.now.history ≡ N.opened.recovered }
     {
-        Refusal {
+        SubmitRefusal {
             fault,
             point: self.publisher.log_point(&self.book),
         }

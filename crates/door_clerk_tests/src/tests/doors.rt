@@ -1,6 +1,6 @@
 //! Requests at a door, one after the other.
 
-use door_clerk::Refusal;
+use door_clerk::DoorRefusal;
 use gate_session::{Answer, Clerk, FaultCode};
 use std::sync::Wait;
 use std::sync::atomic::Ordering;
@@ -12,13 +12,13 @@ use super::fakes::{HOLDING, REPLY};
 struct Row {
     touch: Touch,
     standing: Standing,
-    refusal: Option<Refusal>,
+    refusal: Option<DoorRefusal>,
     /// How often the history is read.
     looks: u64,
 }
 
 /// The answer to a touch, let through or kept out.
-fn answer_to(touch: &Touch, refusal: Option<Refusal>) -> Answer {
+fn answer_to(touch: &Touch, refusal: Option<DoorRefusal>) -> Answer {
     let Touch { gate, number, .. } = *touch;
     match refusal {
         None => Answer::Reply {
@@ -74,25 +74,25 @@ fn a_touch_is_let_through_or_kept_out(rt: HostRuntime) {
         },
         Row {
             touch: touch(7, revision),
-            refusal: Some(Refusal::Kind),
+            refusal: Some(DoorRefusal::Kind),
             looks: 0,
             ..row
         },
         Row {
             touch: entry(21, soon),
-            refusal: Some(Refusal::Gate),
+            refusal: Some(DoorRefusal::Gate),
             looks: 0,
             ..row
         },
         // 2106
         Row {
             touch: entry(7, u32::MAX),
-            refusal: Some(Refusal::Ahead),
+            refusal: Some(DoorRefusal::Ahead),
             ..row
         },
         Row {
             standing: full,
-            refusal: Some(Refusal::Reserve),
+            refusal: Some(DoorRefusal::Reserve),
             ..row
         },
         Row {
@@ -111,7 +111,7 @@ fn refusal_at<R: Wait>(
     rt: &R,
     door: &mut DoorClerk<'_, Counting, Scene>,
     ticks: u64,
-) -> Option<Refusal> {
+) -> Option<DoorRefusal> {
     door.surroundings.clocks.ticks = ticks;
     let _answer = door.submit(rt, entry(7, 1_736_150_400));
     door.last
@@ -123,7 +123,7 @@ fn a_flood_is_kept_out_and_a_second_is_enough(rt: HostRuntime) {
         return;
     };
     let mut door = door(&rule, NOW, NEW);
-    let fast = Some(Refusal::Rate);
+    let fast = Some(DoorRefusal::Rate);
     let rows = [
         (5_000, None),
         (5_000, None),
@@ -172,6 +172,6 @@ fn an_enquiry_may_be_kept_out(rt: HostRuntime) {
         number: 0,
     };
     assert_same(&rt, refused.enquire(8), not_allowed);
-    assert_same(&rt, refused.last, Some(Refusal::Kind));
+    assert_same(&rt, refused.last, Some(DoorRefusal::Kind));
     assert_same(&rt, refused.behind.enquiries, 0);
 }

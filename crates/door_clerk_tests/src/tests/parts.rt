@@ -1,6 +1,6 @@
 //! The parts of a rule, and a bucket.
 
-use door_clerk::{Refusal, TICKS_PER_SECOND};
+use door_clerk::{DoorRefusal, TICKS_PER_SECOND};
 use gate_session::Request;
 use super::*;
 
@@ -38,8 +38,8 @@ fn each_kind_is_allowed_by_its_own_name(rt: HostRuntime) {
         moment: 0,
     };
     assert_same(&rt, PASSAGES.allow_act(&top_up), false);
-    assert_same(&rt, rule.check_name(&touch(40, top_up)), Err(Refusal::Kind));
-    assert_same(&rt, rule.check_name(&entry(39, 0)), Err(Refusal::Gate));
+    assert_same(&rt, rule.check_name(&touch(40, top_up)), Err(DoorRefusal::Kind));
+    assert_same(&rt, rule.check_name(&entry(39, 0)), Err(DoorRefusal::Gate));
     assert_same(&rt, rule.check_name(&entry(40, 0)), Ok(()));
 }
 
@@ -64,7 +64,7 @@ fn a_bucket_gains_a_touch_a_second(rt: HostRuntime) {
     ] {
         assert_same_at(&rt, empty.has_token(rule.rate, ticks), has, ticks);
     }
-    assert_same(&rt, rule.check_rate(&empty, 5_999), Err(Refusal::Rate));
+    assert_same(&rt, rule.check_rate(&empty, 5_999), Err(DoorRefusal::Rate));
     let later = Bucket {
         level: 0,
         ticks: 6_000,
@@ -105,9 +105,9 @@ fn a_new_touch_is_near_and_leaves_the_reserve(rt: HostRuntime) {
     let full = Standing::New { room: 100 };
     let rows = [
         (1_060, NEW, Ok(())),
-        (1_061, NEW, Err(Refusal::Ahead)),
-        (1_061, full, Err(Refusal::Ahead)),
-        (0, full, Err(Refusal::Reserve)),
+        (1_061, NEW, Err(DoorRefusal::Ahead)),
+        (1_061, full, Err(DoorRefusal::Ahead)),
+        (0, full, Err(DoorRefusal::Reserve)),
         (u32::MAX, Standing::Repeat, Ok(())),
     ];
     for (moment, standing, want) in rows {

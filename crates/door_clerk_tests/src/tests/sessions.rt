@@ -1,6 +1,6 @@
 //! A session through a door.
 
-use door_clerk::{Refusal, serve_at_door};
+use door_clerk::{DoorRefusal, serve_at_door};
 use gate_session::{End, Served};
 use super::*;
 use test_streams::{Pieces, Taker};
@@ -49,5 +49,5 @@ fn a_session_goes_on_after_fault_7(rt: HostRuntime) {
     assert_same(&rt, served, whole);
     assert_same(&rt, writer.taken.as_slice(), ANSWERED);
     assert_same(&rt, (door.behind.touches, door.behind.enquiries), (1, 1));
-    assert_same(&rt, door.last, None::<Refusal>);
+    assert_same(&rt, door.last, None::<DoorRefusal>);
 }

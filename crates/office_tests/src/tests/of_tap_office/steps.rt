@@ -6,7 +6,7 @@ use super::*;
 use std::fmt::Display;
 use std::marker::Brand;
 use std::sync::Wait;
-use tap_office::{Desk, Filed, Named, Office, Receipt, Refusal, Seat};
+use tap_office::{Desk, Filed, Named, Office, Receipt, Seat, SubmitRefusal};
 
 /// How an office of two seats was worked through.
 #[derive(Clone, Copy, Debug, PartialEq, Eq)]
@@ -56,7 +56,7 @@ pub fn learn<N: Named>(rt: &impl Abort, desk: &mut Desk<N>, receipt: Receipt<N>)
 fn learn_answer<N: Named>(
     rt: &impl Abort,
     desk: &mut Desk<N>,
-    answer: Result<Receipt<N>, Refusal<N>>,
+    answer: Result<Receipt<N>, SubmitRefusal<N>>,
 ) -> Answer {
     match answer {
         Ok(receipt) => learn(rt, desk, receipt),
