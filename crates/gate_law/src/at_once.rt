@@ -50,11 +50,7 @@ fn answer_to<C: Clerk, H: Wait>(rt: &H, clerk: &mut C, bytes: &[u8]) -> Answer
         → C.gives clerk.old (requests.Touch touch) result clerk.new }
 {
     let Some(request) = Request::read_whole(bytes) else {
-        return Answer::Fault {
-            code: FaultCode::BadFrame.code(),
-            gate: 0,
-            number: 0,
-        };
+        return Answer::unnamed_fault(FaultCode::BadFrame);
     };
     hand_over(rt, clerk, request)
 }

@@ -1,6 +1,6 @@
 //! A clerk who answers from a station's book: what a clerk is that keeps a station.
 ghost use Rattle.std.specs.Prelude.{◌≡◌};
-ghost use Rattle.gate_session.specs.Answers.{AnswerFits, fault_code};
+ghost use Rattle.gate_session.specs.Answers.{AnswerFits};
 ghost use Rattle.reply_book.specs.Book.{Stands};
 ghost use Rattle.gate_law.specs.BookClerk.{answer_for, code_of};
 
@@ -86,31 +86,9 @@ fn answer_for(touch: &Touch, given: Result<Answered, AnswerFault>) -> Answer
     ensures { result ≡ answer_for touch.now given }
 {
     match given {
-        Ok(Answered::Entered { place: _, reply }) => reply_to(touch, reply),
-        Ok(Answered::Repeated { place: _, reply }) => reply_to(touch, reply),
-        Err(fault) => fault_of(touch, code_of(fault)),
-    }
-}
-
-/// The reply to a touch, with its gate and number.
-fn reply_to(touch: &Touch, reply: Reply) -> Answer
-    ensures { result ≡ Answer.Reply touch.now.gate touch.now.number reply }
-{
-    Answer::Reply {
-        gate: touch.gate,
-        number: touch.number,
-        reply,
-    }
-}
-
-/// A fault that answers a touch, with its gate and number.
-fn fault_of(touch: &Touch, code: FaultCode) -> Answer
-    ensures { result ≡ Answer.Fault (fault_code code) touch.now.gate touch.now.number }
-{
-    Answer::Fault {
-        code: code.code(),
-        gate: touch.gate,
-        number: touch.number,
+        Ok(Answered::Entered { place: _, reply }) => Answer::reply(reply, touch),
+        Ok(Answered::Repeated { place: _, reply }) => Answer::reply(reply, touch),
+        Err(fault) => Answer::fault(code_of(fault), touch),
     }
 }
 

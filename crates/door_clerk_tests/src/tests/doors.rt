@@ -19,18 +19,9 @@ struct Row {
 
 /// The answer to a touch, let through or kept out.
 fn answer_to(touch: &Touch, refusal: Option<DoorRefusal>) -> Answer {
-    let Touch { gate, number, .. } = *touch;
     match refusal {
-        None => Answer::Reply {
-            gate,
-            number,
-            reply: REPLY,
-        },
-        Some(_) => Answer::Fault {
-            code: FaultCode::NotAllowed.code(),
-            gate,
-            number,
-        },
+        None => Answer::reply(REPLY, touch),
+        Some(_) => Answer::fault(FaultCode::NotAllowed, touch),
     }
 }
 

@@ -36,11 +36,7 @@ impl Clerk for Counting {
 
     fn submit<R: Wait>(&mut self, _rt: &R, touch: Touch) -> Answer {
         self.touches = self.touches.saturating_add(1);
-        Answer::Reply {
-            gate: touch.gate,
-            number: touch.number,
-            reply: REPLY,
-        }
+        Answer::reply(REPLY, &touch)
     }
 
     fn enquire(&mut self, _card: u32) -> Answer {

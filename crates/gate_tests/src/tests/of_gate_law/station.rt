@@ -47,26 +47,13 @@ impl Clerk for Script {
     ghost gives = { λ _ _ _ _. Unit {0} };
 
     fn submit<R: Wait>(&mut self, _rt: &R, touch: Touch) -> Answer {
-        let Touch { gate, number, .. } = touch;
         match self.judge(&touch) {
-            Ok(reply) => Answer::Reply {
-                gate,
-                number,
-                reply,
-            },
-            Err(code) => Answer::Fault {
-                code: code.code(),
-                gate,
-                number,
-            },
+            Ok(reply) => Answer::reply(reply, &touch),
+            Err(code) => Answer::fault(code, &touch),
         }
     }
 
     fn enquire(&mut self, _card: u32) -> Answer {
-        Answer::Fault {
-            code: FaultCode::Halted.code(),
-            gate: 0,
-            number: 0,
-        }
+        Answer::unnamed_fault(FaultCode::Halted)
     }
 }

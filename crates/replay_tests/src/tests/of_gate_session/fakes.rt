@@ -87,11 +87,7 @@ impl Clerk for Morning {
 
     fn submit<R: Wait>(&mut self, _rt: &R, touch: Touch) -> Answer {
         self.touches = self.touches.saturating_add(1);
-        Answer::Reply {
-            gate: touch.gate,
-            number: touch.number,
-            reply: reply_to(touch.number),
-        }
+        Answer::reply(reply_to(touch.number), &touch)
     }
 
     fn enquire(&mut self, _card: u32) -> Answer {
