@@ -1,6 +1,6 @@
 -- What a fault prints: the line that standard error gets of it (FAULTS.md, "Faults"; this
 -- project's choice).
-use Rattle.std.specs.Prelude.{ℕ, List, ◌++◌, Option, Some, codes}
+use Rattle.std.specs.Prelude.{◌≡◌, ℕ, List, ◌++◌, Option, Some, codes}
 use Rattle.std.specs.Fmt.{decimal}
 use Rattle.journal_audit.specs.Texts.{printed_gate_fault, printed_header_fault, printed_seal_fault}
 use Rattle.text_io.specs.declared.fault.RunFault.TheVariants.{Write}
@@ -42,3 +42,8 @@ told_fault (Output _) = told_trial (Run Write)
 told_fault SeatMissing = Some (codes "fault close 1 SeatMissing")
 told_fault Mismatch = Some (codes "fault close 2 Mismatch")
 told_fault DeskMismatch = Some (codes "fault close 3 DeskMismatch")
+
+-- the fault has the line of one of which this is said: its second line may be another
+abbrev pub IsExplained : (CommandFault → Type 0) → CommandFault → Type 0
+IsExplained Says fault =
+    (cause : CommandFault) × (told_fault fault ≡ told_fault cause) × Says cause

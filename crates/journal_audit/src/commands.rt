@@ -4,7 +4,6 @@ pub(crate) mod balances;
 pub(crate) mod behind;
 pub(crate) mod fault;
 pub(crate) mod history;
-pub(crate) mod journals;
 pub(crate) mod output;
 pub(crate) mod second_line;
 pub(crate) mod settled;

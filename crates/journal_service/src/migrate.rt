@@ -8,17 +8,17 @@ ghost use Rattle.console.specs.declared.fault.TrialFault.TheVariants.{Run};
 ghost use Rattle.table_check.specs.Tables.{IsTableIn};
 ghost use Rattle.fare_table.specs.Fares.{digest_of};
 ghost use Rattle.fare_table.specs.declared.fares.Fares.{Fares};
+ghost use Rattle.journal_audit.specs.Told.{IsExplained};
 ghost use Rattle.journal_audit.specs.declared.commands.fault.CommandFault.TheVariants.{Trial};
 ghost use Rattle.journal_service.specs.Migrated.{migrated_line};
 ghost use Rattle.journal_service.specs.Carried.{HasCarried};
 
-use crate::disks::{JournalFiles, SystemDisks};
+use crate::disks::JournalFiles;
 use command_line::Migrate;
 use console::WholeFiles;
 use fare_table::Digest;
 use journal_audit::{CommandFault, explained, tell_end};
 use std::alloc::Global;
-use std::fs::File;
 use std::io;
 use std::io::Write;
 use std::process::ExitCode;
@@ -65,14 +65,30 @@ pub fn migrate_journal<
     }
 }
 
-/// The same, from one file of the system to another, with the second line of a fault.
-pub fn explained_migrate<R: AllocGlobal + Files<File = File> + Eprint, F: WholeFiles, W: Write>(
+/// The same, with the second line of a fault.
+pub fn explained_migrate<
+    R: AllocGlobal + Files + Eprint,
+    F: WholeFiles,
+    D: Disk,
+    S: JournalFiles<D>,
+    W: Write,
+>(
     rt: &R,
     files: &F,
+    disks: &S,
     asked: &Migrate<'_>,
     output: &mut W,
-) -> Result<ExitCode, CommandFault> {
-    match migrate_journal(rt, files, &SystemDisks::new(rt), asked, output) {
+) -> Result<ExitCode, CommandFault>
+    ensures ok { OnOk result ((table : Fares) × (number : ℕ)
+        × IsTableIn (F.gave files.now) asked.now.table.now table
+        × HasCarried D.honest D.content D.outcome (S.opened_alone disks.now) (S.opened disks.now)
+        asked.now (digest_of table) number
+        × Appends (W.contents output.old) (W.contents output.new) (migrated_line number)) }
+    ensures status { IfOk result (λ status. exit_status status ≡ 0) }
+    ensures fault { IfErr result (IsExplained (λ fault.
+        (output.new ≡ output.old) ⊎ (fault ≡ Trial (Run Write)))) }
+{
+    match migrate_journal(rt, files, disks, asked, output) {
         Ok(status) => Ok(status),
         Err(fault) => {
             let table = Some(asked.table);

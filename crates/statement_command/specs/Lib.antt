@@ -4,4 +4,5 @@ pub mod Words
 pub mod Csv
 pub mod Card
 pub mod Journal
+pub mod Command
 pub mod Laws

@@ -1,10 +1,9 @@
 //! The command `statement`: a card's statement from a journal's file.
 
-ghost use Rattle.std.specs.Prelude.{◌≡◌, ◌⊎◌, Err, IfOk, IfErr, OnOk, map};
+ghost use Rattle.std.specs.Prelude.{◌≡◌, IfOk, IfErr, OnOk};
 ghost use Rattle.std.specs.Process.{exit_status};
-ghost use Rattle.journal_audit.specs.Words.{HasTold, IsUnread};
-ghost use Rattle.statement_command.specs.Journal.{IsStatement, HasTold as IsTold};
-ghost use Rattle.statement_command.specs.Days.{days_by};
+ghost use Rattle.journal_audit.specs.Told.{IsExplained};
+ghost use Rattle.statement_command.specs.Command.{HasToldStatement, IsStatementUntold};
 
 use crate::days::Days;
 use crate::journal::write_statement;
@@ -29,17 +28,11 @@ pub fn tell_statement<R: AllocGlobal + Eprint, F: WholeFiles, W: Write>(
     asked: &Statement<'_>,
     writer: &mut W,
 ) -> Result<ExitCode, CommandFault>
-    ensures ok { OnOk result (HasTold (F.gave files.now) asked.now.table.now
-        (map (λ word. word.now) asked.now.revisions.items) asked.now.journal.now
-        (W.contents writer.old) (W.contents writer.new) (λ tables bytes text.
-        IsStatement tables asked.now.card (days_by asked.now) asked.now.format bytes text)) }
+    ensures ok { OnOk result (HasToldStatement (F.gave files.now) asked.now
+        (W.contents writer.old) (W.contents writer.new)) }
     ensures status { IfOk result (λ status. exit_status status ≡ 0) }
-    ensures fault { IfErr result (λ fault. (IsUnread (F.gave files.now) asked.now.table.now
-        (map (λ word. word.now) asked.now.revisions.items) fault × (writer.new ≡ writer.old))
-        ⊎ HasTold (F.gave files.now) asked.now.table.now
-        (map (λ word. word.now) asked.now.revisions.items) asked.now.journal.now
-        (W.contents writer.old) (W.contents writer.new) (λ tables bytes text.
-        IsTold tables asked.now.card (days_by asked.now) asked.now.format bytes text (Err fault))) }
+    ensures fault { IfErr result (IsStatementUntold (F.gave files.now) asked.now
+        (W.contents writer.old) (W.contents writer.new) (writer.new ≡ writer.old)) }
 {
     let alloc = rt.alloc();
     let schedule = tables_in(alloc, files, Some(asked.table), asked.revisions.as_slice())?;
@@ -69,7 +62,13 @@ pub fn explained_statement<R: AllocGlobal + Eprint, F: WholeFiles, W: Write>(
     files: &F,
     asked: &Statement<'_>,
     output: &mut W,
-) -> Result<ExitCode, CommandFault> {
+) -> Result<ExitCode, CommandFault>
+    ensures ok { OnOk result (HasToldStatement (F.gave files.now) asked.now
+        (W.contents output.old) (W.contents output.new)) }
+    ensures status { IfOk result (λ status. exit_status status ≡ 0) }
+    ensures fault { IfErr result (IsExplained (IsStatementUntold (F.gave files.now) asked.now
+        (W.contents output.old) (W.contents output.new) (output.new ≡ output.old))) }
+{
     match tell_statement(rt, hashing, files, asked, output) {
         Ok(status) => Ok(status),
         Err(fault) => {

@@ -10,7 +10,7 @@ use journal_audit::{
     CommandFault, ended_by, explained_balances, explained_history, explained_verify,
     tell_command_fault,
 };
-use journal_service::{System, explained_migrate, serve_gates, standard_files};
+use journal_service::{System, SystemDisks, explained_migrate, serve_gates, standard_files};
 use line_replay::replay_input;
 use reply_book::NameHashing;
 use statement_command::explained_statement;
@@ -60,6 +60,7 @@ fn done<
     let words = words_of(rt)?;
     let words: Vec<&str> = words.iter().map(|word| word.as_str()).collect(rt.alloc())?;
     let files = SystemFiles::new(rt);
+    let disks = SystemDisks::new(rt);
     let hashing = NameHashing::random(rt);
     match arguments_of(rt.alloc(), words.as_slice())? {
         Arguments::Replay {
@@ -90,7 +91,7 @@ fn done<
             let _held = standard_files(rt);
             serve_gates(rt, hashing, &asked)
         }
-        Arguments::Migrate(asked) => explained_migrate(rt, &files, &asked, output),
+        Arguments::Migrate(asked) => explained_migrate(rt, &files, &disks, &asked, output),
         Arguments::Verify(asked) => explained_verify(rt, hashing, &files, &asked, output),
         Arguments::History(asked) => explained_history(rt, hashing, &files, &asked, output),
         Arguments::Balances(asked) => explained_balances(rt, hashing, &files, &asked, output),

@@ -1,12 +1,9 @@
 //! The command `balances`: what the cards of a journal hold that is read alone.
 
-ghost use Rattle.std.specs.Prelude.{◌≡◌, ◌⊎◌, IfOk, IfErr, OnOk, map};
+ghost use Rattle.std.specs.Prelude.{◌≡◌, IfOk, IfErr, OnOk};
 ghost use Rattle.std.specs.Process.{exit_status};
-ghost use Rattle.journal_audit.specs.Balances.{AreBalances, HasEnded};
-ghost use Rattle.journal_audit.specs.declared.balances.totals.Totals.{Totals as Sums};
-ghost use Rattle.journal_audit.specs.declared.fault.AuditFault.{AuditFault};
-ghost use Rattle.journal_audit.specs.Command.{audit_fault};
-ghost use Rattle.journal_audit.specs.Words.{HasTold, IsUnread};
+ghost use Rattle.journal_audit.specs.Journals.{HasToldBalances, AreBalancesUntold};
+ghost use Rattle.journal_audit.specs.Told.{IsExplained};
 ghost use Rattle.journal_audit.specs.declared.commands.fault.CommandFault.TheVariants.{Output};
 ghost use Rattle.console.specs.declared.detail.Detail.{Detail};
 
@@ -14,6 +11,7 @@ use crate::balances::totals::Totals;
 use crate::balances::write_balances;
 use crate::commands::behind::tell_many;
 use crate::commands::fault::CommandFault;
+use crate::commands::second_line::explained;
 use crate::commands::settled::settled_file;
 use command_line::Balances;
 use console::{Detail, Refusal, WholeFiles};
@@ -39,23 +37,11 @@ pub fn tell_balances<R: AllocGlobal + Eprint, F: WholeFiles, W: Write>(
     asked: &Balances<'_>,
     writer: &mut W,
 ) -> Result<ExitCode, CommandFault>
-    ensures ok { OnOk result (HasTold (F.gave files.now) asked.now.table.now
-        (map (λ word. word.now) asked.now.revisions.items) asked.now.journal.now
-        (W.contents writer.old) (W.contents writer.new) (λ tables bytes text.
-        (totals : Sums) × AreBalances tables asked.now.at bytes text totals)) }
+    ensures ok { OnOk result (HasToldBalances (F.gave files.now) asked.now
+        (W.contents writer.old) (W.contents writer.new)) }
     ensures status { IfOk result (λ status. exit_status status ≡ 0) }
-    ensures fault { IfErr result (λ fault. (IsUnread (F.gave files.now) asked.now.table.now
-        (map (λ word. word.now) asked.now.revisions.items) fault × (writer.new ≡ writer.old))
-        ⊎ ((cause : AuditFault) × (fault ≡ audit_fault cause)
-        × HasTold (F.gave files.now) asked.now.table.now
-        (map (λ word. word.now) asked.now.revisions.items) asked.now.journal.now
-        (W.contents writer.old) (W.contents writer.new) (λ tables bytes text.
-        HasEnded tables asked.now.at bytes text cause))
-        ⊎ ((detail : Detail) × (fault ≡ Output detail)
-        × HasTold (F.gave files.now) asked.now.table.now
-        (map (λ word. word.now) asked.now.revisions.items) asked.now.journal.now
-        (W.contents writer.old) (W.contents writer.new) (λ tables bytes text.
-        (totals : Sums) × AreBalances tables asked.now.at bytes text totals))) }
+    ensures fault { IfErr result (AreBalancesUntold (F.gave files.now) asked.now
+        (W.contents writer.old) (W.contents writer.new) (writer.new ≡ writer.old)) }
 {
     let alloc = rt.alloc();
     let schedule = tables_in(alloc, files, Some(asked.table), asked.revisions.as_slice())?;
@@ -65,6 +51,26 @@ pub fn tell_balances<R: AllocGlobal + Eprint, F: WholeFiles, W: Write>(
     match tell_totals(rt, &totals) {
         Ok(()) => Ok(ExitCode::SUCCESS),
         Err(error) => Err(sums_fault(alloc, &error)),
+    }
+}
+
+/// The same, with the second line of a fault.
+pub fn explained_balances<R: AllocGlobal + Eprint, F: WholeFiles, W: Write>(
+    rt: &R,
+    hashing: NameHashing,
+    files: &F,
+    asked: &Balances<'_>,
+    output: &mut W,
+) -> Result<ExitCode, CommandFault>
+    ensures ok { OnOk result (HasToldBalances (F.gave files.now) asked.now
+        (W.contents output.old) (W.contents output.new)) }
+    ensures status { IfOk result (λ status. exit_status status ≡ 0) }
+    ensures fault { IfErr result (IsExplained (AreBalancesUntold (F.gave files.now) asked.now
+        (W.contents output.old) (W.contents output.new) (output.new ≡ output.old))) }
+{
+    match tell_balances(rt, hashing, files, asked, output) {
+        Ok(status) => Ok(status),
+        Err(fault) => Err(explained(rt.alloc(), asked.journal, Some(asked.table), fault)),
     }
 }
 

@@ -5,6 +5,7 @@ ghost use Rattle.std.specs.Process.{exit_status};
 ghost use Rattle.fare_schedule.specs.Schedule.{revisions_of};
 ghost use Rattle.reply_book.specs.Tables.{tables_in as tables_by};
 ghost use Rattle.journal_audit.specs.Command.{asked_by};
+ghost use Rattle.journal_audit.specs.Told.{IsExplained};
 ghost use Rattle.journal_audit.specs.Verified.{AreTablesAsked, AreTablesRefused, IsUnread};
 ghost use Rattle.journal_audit.specs.Verified.{status_of, IsVerified, HasVerified};
 ghost use Rattle.journal_audit.specs.Verified.{HasEndedEarly, HasVerifiedAs, IsUnverifiedAs};
@@ -14,6 +15,7 @@ use crate::audit::audit_journal;
 use crate::audit::finding::Finding;
 use crate::audit::header::Asked;
 use crate::commands::fault::CommandFault;
+use crate::commands::second_line::explained;
 use crate::commands::settled::settled_file;
 use crate::gate_file::audit_gate_file;
 use command_line::Verify;
@@ -47,6 +49,26 @@ pub fn verify_journal<R: AllocGlobal + Eprint, F: WholeFiles, W: Write>(
     match asked.gate {
         Some(gate) => verify_gate_file(rt, files, gate, asked, writer),
         None => verify_station(rt, hashing, files, asked, writer),
+    }
+}
+
+/// The same, with the second line of a fault.
+pub fn explained_verify<R: AllocGlobal + Eprint, F: WholeFiles, W: Write>(
+    rt: &R,
+    hashing: NameHashing,
+    files: &F,
+    asked: &Verify<'_>,
+    output: &mut W,
+) -> Result<ExitCode, CommandFault>
+    ensures ok { IfOk result (λ status. HasVerifiedAs (F.gave files.now) asked.now asked.now.gate
+        (W.contents output.old) (W.contents output.new) (exit_status status)) }
+    ensures fault { IfErr result (IsExplained (IsUnverifiedAs (F.gave files.now) asked.now
+        asked.now.gate (W.contents output.old) (W.contents output.new)
+        (output.new ≡ output.old))) }
+{
+    match verify_journal(rt, hashing, files, asked, output) {
+        Ok(status) => Ok(status),
+        Err(fault) => Err(explained(rt.alloc(), asked.journal, asked.table, fault)),
     }
 }
 
