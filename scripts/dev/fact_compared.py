@@ -51,10 +51,6 @@ FACTS: dict[str, tuple[Place | Read, list[Place]]] = {
             Place("tools/bovtrila/model.py", IN_PYTHON, *braces("VERDICTS =")),
             Place("network/schema.sql", r"'(?P<name>\w+)'", r"CREATE TYPE verdict AS ENUM", r";"),
         ]),
-    "faults of a session": (
-        Place("crates/gate_session/src/answer.rt", r"FaultCode::(?P<name>\w+) => (?P<code>\d+),"), [
-            Place("crates/tap_office/src/fault.rt", r"SubmitFault::(?P<name>\w+) => (?P<code>\d+),", some=True),
-        ]),
     "kinds of requests": (
         Read("the definitions of frames", numbers_of(is_answer=False)), [
             Place("tools/bovtrila/codec.py", r"(?P<code>\d+)", r"^ENTER, LEAVE, .* = ", r"$"),

@@ -15,11 +15,12 @@ use Rattle.tap_office.specs.declared.fault.SubmitFault.TheVariants.{Conflict, Ha
 use Rattle.tap_office.specs.Name.{Opened}
 use Rattle.tap_office.specs.Given.{IsGiven, is_known_by, is_known_to}
 use Rattle.tap_office.specs.Refusal.{IsCauseAfter}
+use Rattle.office_lines.specs.Clerk.{code_of}
 use Rattle.clerk_calls.specs.Logged.{Log, HasLearnt}
 use Rattle.clerk_calls.specs.Listed.{log_by}
 use Rattle.clerk_calls.specs.Turns.{Said, replies, refuses, tells, office_at, StandsBeside, IsSaidAt}
 use Rattle.clerk_calls.specs.Merged.{AreMerged}
-use Rattle.clerk_calls.specs.Answered.{code_of, newest, IsSaidBy, Saying, AreAnswered}
+use Rattle.clerk_calls.specs.Answered.{newest, IsSaidBy, Saying, AreAnswered}
 use Rattle.clerk_calls.specs.Answered.{DoSessionsFollow, HaveAnswered, count_by, DoesGrow}
 use Rattle.clerk_calls.proofs.EntryLemmas.{front-of, begins-earlier, begins-before}
 use Rattle.clerk_calls.proofs.MergeLemmas.{ArePut, put-none, put-list, AreRight, AreAllRight, merged-right}

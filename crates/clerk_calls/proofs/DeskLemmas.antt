@@ -5,21 +5,15 @@ use Rattle.reply_book.specs.declared.entry.Entry.{Entry}
 use Rattle.gate_session.specs.declared.request.Request.{Request}
 use Rattle.gate_session.specs.declared.request.Request.TheVariants as requests
 use Rattle.gate_session.specs.declared.answer.Answer.{Answer}
-use Rattle.gate_session.specs.declared.answer.Answer.TheVariants as answers
-use Rattle.gate_session.specs.Answers.{fault_code as byte_of}
 use Rattle.gate_session.specs.declared.session.Served.{Served}
 use Rattle.gate_session.specs.Clerk.{IsRun as IsClerksRun}
 use Rattle.gate_session.specs.Session.{Exchange, IsSession, IsRefused, IsAnswerCut, IsRefusalCut, refusal}
 use Rattle.gate_law.specs.WholeSteps.{IsOfNoTouch}
 use Rattle.gate_law.proofs.SessionLemmas.{IsWhole, ways}
-use Rattle.tap_office.specs.declared.fault.SubmitFault.{SubmitFault}
-use Rattle.tap_office.specs.declared.fault.SubmitFault.TheVariants.{Conflict, Halted, Memory, Full, UnknownTable}
-use Rattle.tap_office.specs.Fault.{fault_code}
 use Rattle.tap_office.specs.Name.{Opened}
-use Rattle.office_lines.specs.Clerk.{ClerkState, HasGiven}
+use Rattle.office_lines.specs.Clerk.{ClerkState, code_of, HasGiven}
 use Rattle.clerk_calls.specs.Turns.{Said, replies, refuses, tells, answer_of}
-use Rattle.clerk_calls.specs.Answered.{code_of, newest, IsSaidBy, Saying, said_of, AreAnswered, IsSaidTo, AreSaidTo}
-use Rattle.clerk_calls.specs.Answered.{HasSaid}
+use Rattle.clerk_calls.specs.Answered.{newest, IsSaidBy, Saying, said_of, AreAnswered, IsSaidTo, AreSaidTo, HasSaid}
 use Rattle.clerk_calls.proofs.AnsweredLemmas.{learnt-none, answered-then, answered-front}
 use Rattle.clerk_calls.proofs.OfficeLemmas.{IsGivenOrOut, begins-length}
 
@@ -55,14 +49,6 @@ none-one opened before after request answer same to none = record {
   answered = (before, learnt-none before, refl, none, ([], same));
 }
 
--- a fault of the office has one code
-same-code : (fault : SubmitFault) → fault_code fault ≡ byte_of (code_of fault)
-same-code Conflict = refl
-same-code Halted = refl
-same-code Memory = refl
-same-code Full = refl
-same-code UnknownTable = refl
-
 given-said : (opened : Opened) (before after : ClerkState) (request : Request) (answer : Answer)
     → HasGiven opened before after request answer
     → IsOneSaid opened before.desk.points after.desk.points request answer
@@ -74,8 +60,7 @@ given-said opened before after (requests.Touch touch) answer (inl is) =
     })
 given-said opened before after (requests.Touch touch) answer (inr is) =
     learnt-one opened before.desk.points after.desk.points (requests.Touch touch) answer is.point
-    (refuses touch (code_of is.fault))
-    (is.is ∙ ap (λ (n : ℕ). answers.Fault n touch.gate touch.number) (same-code is.fault)) refl is.learnt (record {
+    (refuses touch (code_of is.fault)) is.is refl is.learnt (record {
       office = is.fault;
       is = refl;
       cause = is.cause;

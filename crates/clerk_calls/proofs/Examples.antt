@@ -30,10 +30,11 @@ use Rattle.tap_office.specs.declared.fault.SubmitFault.{SubmitFault}
 use Rattle.tap_office.specs.declared.fault.SubmitFault.TheVariants as faults
 use Rattle.tap_office.specs.Name.{nothing_opened}
 use Rattle.tap_office.specs.Refusal.{IsCauseAfter}
+use Rattle.office_lines.specs.Clerk.{code_of}
 use Rattle.clerk_calls.specs.Turns.{Said, replies, refuses, enters, says, office_at, IsTurn, AreTurns}
 use Rattle.clerk_calls.specs.Schedules.{IsPause, WasSent}
 use Rattle.clerk_calls.specs.Merged.{IsMerge, AreMerged}
-use Rattle.clerk_calls.specs.Answered.{code_of, newest, IsRefusedIn, AreAnswered, IsSaidTo, DoesGrow}
+use Rattle.clerk_calls.specs.Answered.{newest, IsRefusedIn, AreAnswered, IsSaidTo, DoesGrow}
 use Rattle.clerk_calls.specs.Logged.{Log, DoesFromLog, KeepsLog, IsLogOf, IsLoggedIn, IsBehind}
 use Rattle.clerk_calls.proofs.LogLemmas.{Leads, serves-all}
 

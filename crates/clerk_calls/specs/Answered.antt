@@ -8,26 +8,16 @@ use Rattle.gate_session.specs.declared.request.Request.{Request}
 use Rattle.gate_session.specs.declared.request.Request.TheVariants as requests
 use Rattle.gate_session.specs.declared.answer.Answer.{Answer}
 use Rattle.gate_session.specs.declared.answer.FaultCode.{FaultCode}
-use Rattle.gate_session.specs.declared.answer.FaultCode.TheVariants as codes
 use Rattle.gate_session.specs.Session.{refusal}
 use Rattle.door_clerk.specs.Door.{refusal_of}
 use Rattle.gate_law.specs.WholeSteps.{IsOfNoTouch}
 use Rattle.tap_desk.specs.Desks.{DeskState}
 use Rattle.tap_office.specs.declared.fault.SubmitFault.{SubmitFault}
-use Rattle.tap_office.specs.declared.fault.SubmitFault.TheVariants.{Conflict, Halted, Memory, Full}
-use Rattle.tap_office.specs.declared.fault.SubmitFault.TheVariants.{UnknownTable}
 use Rattle.tap_office.specs.Name.{Opened}
 use Rattle.tap_office.specs.Refusal.{IsCauseAfter}
+use Rattle.office_lines.specs.Clerk.{code_of}
 use Rattle.clerk_calls.specs.Logged.{HasLearnt}
 use Rattle.clerk_calls.specs.Turns.{Said, replies, refuses, tells, answer_of, StandsBeside}
-
--- the code that a fault of the office has in a frame
-abbrev pub code_of : SubmitFault → FaultCode
-code_of Conflict = codes.Conflict
-code_of Halted = codes.Halted
-code_of Memory = codes.Memory
-code_of Full = codes.Full
-code_of UnknownTable = codes.UnknownTable
 
 -- the newest of these log points; no entries where there is none
 abbrev pub newest : List (List Entry) → List Entry

@@ -8,19 +8,31 @@ use Rattle.gate_session.specs.declared.request.Request.{Request}
 use Rattle.gate_session.specs.declared.request.Request.TheVariants as requests
 use Rattle.gate_session.specs.declared.answer.Answer.{Answer}
 use Rattle.gate_session.specs.declared.answer.Answer.TheVariants as answers
+use Rattle.gate_session.specs.declared.answer.FaultCode.{FaultCode}
+use Rattle.gate_session.specs.declared.answer.FaultCode.TheVariants as codes
+use Rattle.gate_session.specs.Answers.{fault_code}
 use Rattle.reply_book.specs.declared.entry.Entry.{Entry}
 use Rattle.reply_book.specs.Legal.{history_of}
 use Rattle.tap_desk.specs.declared.desk.Enquiry.{Enquiry}
 use Rattle.tap_desk.specs.Desks.{DeskState}
 use Rattle.tap_desk.specs.Listed.{BeginsWith}
 use Rattle.tap_office.specs.declared.fault.SubmitFault.{SubmitFault}
+use Rattle.tap_office.specs.declared.fault.SubmitFault.TheVariants.{Conflict, Halted, Memory, Full}
+use Rattle.tap_office.specs.declared.fault.SubmitFault.TheVariants.{UnknownTable}
 use Rattle.tap_office.specs.declared.receipt.Filed.{Filed}
 use Rattle.tap_office.specs.Enquiry.{IsAnswerFrom}
-use Rattle.tap_office.specs.Fault.{fault_code}
 use Rattle.tap_office.specs.Given.{IsLegalFor}
 use Rattle.tap_office.specs.Name.{Opened}
 use Rattle.tap_office.specs.Refusal.{IsCauseAfter}
 use Rattle.tap_office.specs.Seat.{SeatState}
+
+-- the fault that a gate is sent for a fault of the office: the one of the same name
+abbrev pub code_of : SubmitFault → FaultCode
+code_of Conflict = codes.Conflict
+code_of Halted = codes.Halted
+code_of Memory = codes.Memory
+code_of Full = codes.Full
+code_of UnknownTable = codes.UnknownTable
 
 -- what a clerk has: its seat, and its desk with the list that it saw last and its log points
 pub record ClerkState : Type 0 where
@@ -75,7 +87,7 @@ pub record IsRefused (opened : Opened) (before after : ClerkState) (touch : Touc
   pub legal : IsLegalFor opened (history_of point)
   pub begins : take (length opened.recovered) point ≡ opened.recovered
   pub cause : IsCauseAfter opened point touch fault
-  pub is : answer ≡ answers.Fault (fault_code fault) touch.gate touch.number
+  pub is : answer ≡ answers.Fault (fault_code (code_of fault)) touch.gate touch.number
   pub kept : after.seat ≡ before.seat
   pub learnt : after.desk.points ≡ point ∷ before.desk.points
   pub list : after.desk.list ≡ before.desk.list
@@ -92,9 +104,10 @@ pub record IsTold (opened : Opened) (before after : ClerkState) (card : ℕ) (an
   pub points : after.desk.points ≡ before.desk.points
   pub kept : after.seat ≡ before.seat
 
--- an enquiry for which the desk has no answer is answered by fault 3 of gate 0 and number 0
+-- an enquiry for which the desk has no answer is answered by the fault of a halted office, with
+-- gate 0 and number 0
 pub record IsUntold (before after : ClerkState) (answer : Answer) : Type 0 where
-  pub is : answer ≡ answers.Fault 3 0 0
+  pub is : answer ≡ answers.Fault (fault_code codes.Halted) 0 0
   pub list : after.desk.list ≡ before.desk.list
   pub points : after.desk.points ≡ before.desk.points
   pub kept : after.seat ≡ before.seat

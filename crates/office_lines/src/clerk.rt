@@ -2,10 +2,10 @@
 
 ghost use Rattle.std.specs.Prelude.{◌≡◌};
 ghost use Rattle.gate_session.specs.Answers.{AnswerFits};
-ghost use Rattle.office_lines.specs.Clerk.{clerk_at, HasGiven};
+ghost use Rattle.office_lines.specs.Clerk.{clerk_at, code_of, HasGiven};
 
 use crate::notice::Watch;
-use gate_session::{Answer, Clerk};
+use gate_session::{Answer, Clerk, FaultCode};
 use oyster_account::Touch;
 use std::sync::Wait;
 use tap_disk::{Disk, SystemError};
@@ -46,21 +46,13 @@ impl<N: Named, D: Disk, T: Watch> Clerk for OfficeClerk<'_, N, D, T> {
                 };
                 self.desk.learn(receipt);
                 show(rt, watch, &touch, shown);
-                Answer::Reply {
-                    gate: touch.gate,
-                    number: touch.number,
-                    reply,
-                }
+                Answer::reply(reply, &touch)
             }
             Err(refusal) => {
                 let fault = refusal.fault;
                 self.desk.learn_refusal(refusal);
                 watch.refused(fault, said_of(rt, self.office, fault));
-                Answer::Fault {
-                    code: fault.code(),
-                    gate: touch.gate,
-                    number: touch.number,
-                }
+                Answer::fault(code_of(fault), &touch)
             }
         }
     }
@@ -71,12 +63,21 @@ impl<N: Named, D: Disk, T: Watch> Clerk for OfficeClerk<'_, N, D, T> {
                 view: enquiry.view,
                 front: enquiry.front,
             },
-            None => Answer::Fault {
-                code: SubmitFault::Halted.code(),
-                gate: 0,
-                number: 0,
-            },
+            None => Answer::unnamed_fault(FaultCode::Halted),
         }
+    }
+}
+
+/// The fault that a gate is sent for a fault of the office.
+pub fn code_of(fault: SubmitFault) -> FaultCode
+    ensures { result ≡ code_of fault }
+{
+    match fault {
+        SubmitFault::Conflict => FaultCode::Conflict,
+        SubmitFault::Halted => FaultCode::Halted,
+        SubmitFault::Memory => FaultCode::Memory,
+        SubmitFault::Full => FaultCode::Full,
+        SubmitFault::UnknownTable => FaultCode::UnknownTable,
     }
 }
 

@@ -27,7 +27,7 @@ mod sessions;
 mod tally;
 mod watched_door;
 
-pub use clerk::OfficeClerk;
+pub use clerk::{OfficeClerk, code_of};
 pub use connection::Connection;
 pub use fault::ServeFault;
 pub use gate_line::{GateLine, TcpLines};

@@ -19,15 +19,13 @@ use Rattle.reply_book.proofs.LegalLemmas.{legal-add, touches_in-history_of}
 use Rattle.reply_book.proofs.LawLemmas.{first-exact}
 use Rattle.gate_session.specs.declared.answer.Answer.{Answer}
 use Rattle.gate_session.specs.declared.answer.Answer.TheVariants as answers
-use Rattle.gate_session.specs.declared.answer.FaultCode.{FaultCode}
 use Rattle.gate_session.specs.declared.answer.FaultCode.TheVariants as codes
-use Rattle.gate_session.specs.Answers as told
+use Rattle.gate_session.specs.Answers.{fault_code}
 use Rattle.gate_law.specs.Premises.{Line, TheLock}
 use Rattle.tap_desk.specs.declared.copy_version.LogName.{Ghosts}
 use Rattle.tap_office.specs.declared.receipt.Receipt.{Receipt}
 use Rattle.tap_office.specs.declared.fault.SubmitFault.{SubmitFault}
 use Rattle.tap_office.specs.declared.fault.SubmitFault.TheVariants as faults
-use Rattle.tap_office.specs.Fault.{fault_code}
 use Rattle.tap_office.specs.Name.{Opened}
 use Rattle.tap_office.specs.Given.{IsGiven, IsLegalFor, IsReplyFor, is_known_to, is_known_by}
 use Rattle.tap_office.specs.Keeper.{KeeperState, MayGo, MayNotGo, IsLeft}
@@ -36,7 +34,7 @@ use Rattle.tap_office.specs.Receipt.{IsRepeat, IsFirst, IsReceiptOf}
 use Rattle.gate_law.specs.Whole.{Station, Whole, IsCause}
 use Rattle.gate_law.specs.WholeSteps.{enters, replies, refuses, station_stops}
 use Rattle.station_calls.specs.Shown.{IsOnDisk, IsShownBy}
-use Rattle.station_calls.specs.Commits.{IsCommitRun, answer_to, answered_in}
+use Rattle.station_calls.specs.Commits.{IsCommitRun, answer_to, answered_in, code_of}
 
 -- an opening was given one set of tables
 one-pair : (p q : Tables × ℕ) → Some p ≡ Some q → p ≡ q
@@ -45,21 +43,6 @@ one-pair p q e = cc
 pub one-given : (opened : Opened) (a b : Tables) → IsGiven opened a → IsGiven opened b → a ≡ b
 one-given opened a b is other =
     ap (λ (p : Tables × ℕ). p.0) (one-pair (a, opened.header.cards) (b, opened.header.cards) (sym is ∙ other))
-
--- a fault, as a gate is told
-abbrev code_of : SubmitFault → FaultCode
-code_of faults.Conflict = codes.Conflict
-code_of faults.Halted = codes.Halted
-code_of faults.Memory = codes.Memory
-code_of faults.Full = codes.Full
-code_of faults.UnknownTable = codes.UnknownTable
-
-same_code : (fault : SubmitFault) → told.fault_code (code_of fault) ≡ fault_code fault
-same_code faults.Conflict = refl
-same_code faults.Halted = refl
-same_code faults.Memory = refl
-same_code faults.Full = refl
-same_code faults.UnknownTable = refl
 
 -- what the clauses of a commit say, of a keeper and a seat before and after it
 pub record Committed {D N : Type 0} {g : Ghosts N} (honest : D → Type 0) (outcome : D → List ℕ → Type 0)
@@ -235,12 +218,7 @@ module _ {D : Type 0} (alone : ℕ → Bool) (honest : D → Type 0) (content : 
 
   -- the answer of a fault
   abbrev refusal : SubmitFault → Answer
-  refusal fault = answers.Fault (fault_code fault) touch.gate touch.number
-
-  told_so : (station : Station) (fault : SubmitFault) → answered_in whole station (refusal fault)
-      ≡ answered_in whole station (answers.Fault (told.fault_code (code_of fault)) touch.gate touch.number)
-  told_so station fault =
-      ap (λ (n : ℕ). answered_in whole station (answers.Fault n touch.gate touch.number)) (sym (same_code fault))
+  refusal fault = answers.Fault (fault_code (code_of fault)) touch.gate touch.number
 
   -- a touch is refused, and the station goes on
   refuse-run : (fault : SubmitFault) → IsCause was touch (code_of fault) → new.history ≡ old.history
@@ -249,7 +227,7 @@ module _ {D : Type 0} (alone : ℕ → Bool) (honest : D → Type 0) (content : 
     station = was;
     between = answered_in whole was (refusal fault) ∷ [];
     run = (
-      refuses (record { touch = touch; fault = code_of fault; line = line; cause = cause; is = told_so was fault }),
+      refuses (record { touch = touch; fault = code_of fault; line = line; cause = cause; is = refl }),
       refl,
     );
     shown = shows (answered_in whole was (refusal fault)) is_going shown.given shown.capacity

@@ -8,13 +8,13 @@ ghost use Rattle.gate_client.specs.Client.{HasAsked, answered, waits_of};
 ghost use Rattle.gate_law.specs.Whole.{Whole};
 ghost use Rattle.gate_law.specs.Shown as gates;
 ghost use Rattle.station_calls.specs.Shown as stations;
-ghost use Rattle.station_calls.specs.Commits.{answer_to};
+ghost use Rattle.station_calls.specs.Commits.{answer_to, code_of};
 ghost use Rattle.station_calls.specs.Settled.{IsSettling};
 
 use crate::commit::commit_in_steps;
 use gate_client::{Client, HearFault};
 use gate_law::{NoReplyFault, fitting, send_in_steps};
-use gate_session::{ANSWER_SIZE, Answer};
+use gate_session::{ANSWER_SIZE, Answer, FaultCode};
 use oyster_account::{Reply, Touch};
 use std::alloc::Global;
 use std::sync::Wait;
@@ -62,20 +62,24 @@ fn answer_for<N: Named>(touch: &Touch, committed: Result<Receipt<N>, SubmitFault
     ensures value { result ≡ answer_to touch.now committed }
     ensures fits { AnswerFits result }
 {
-    let Touch { gate, number, .. } = *touch;
     let answer = match committed {
-        Ok(receipt) => Answer::Reply {
-            gate,
-            number,
-            reply: receipt.reply,
-        },
-        Err(fault) => Answer::Fault {
-            code: fault.code(),
-            gate,
-            number,
-        },
+        Ok(receipt) => Answer::reply(receipt.reply, touch),
+        Err(fault) => Answer::fault(code_of(fault), touch),
     };
     fitting(answer)
+}
+
+/// The fault that a gate is sent for a fault of the keeper.
+fn code_of(fault: SubmitFault) -> FaultCode
+    ensures { result ≡ code_of fault }
+{
+    match fault {
+        SubmitFault::Conflict => FaultCode::Conflict,
+        SubmitFault::Halted => FaultCode::Halted,
+        SubmitFault::Memory => FaultCode::Memory,
+        SubmitFault::Full => FaultCode::Full,
+        SubmitFault::UnknownTable => FaultCode::UnknownTable,
+    }
 }
 
 /// What a client hears of the frame of this answer: a reply only where it is that, and a fault only

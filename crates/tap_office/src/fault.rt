@@ -2,42 +2,24 @@
 use std::alloc::AllocError;
 use thiserror::Error;
 
-/// Why a touch was not committed. The numbers are those of a fault frame (PROTOCOL.md).
+/// Why a touch was not committed.
 #[derive(Clone, Copy, Debug, PartialEq, Eq, Error)]
 pub enum SubmitFault {
-    /// 2: the gate has used the touch's number for another touch.
+    /// The gate has used the touch's number for another touch.
     #[error("the number stands for another touch")]
     Conflict,
-    /// 3: the disk failed at an earlier touch or at this one: the office has to be opened again.
+    /// The disk failed at an earlier touch or at this one: the office has to be opened again.
     #[error("the office is halted")]
     Halted,
-    /// 4: memory was refused. The same touch can be submitted again.
+    /// Memory was refused. The same touch can be submitted again.
     #[error("out of memory")]
     Memory,
-    /// 5: the journal holds as many touches as its capacity.
+    /// The journal holds as many touches as its capacity.
     #[error("the journal is full")]
     Full,
-    /// 6: the touch revises fares to a table that the office wasn't opened with.
+    /// The touch revises fares to a table that the office wasn't opened with.
     #[error("the table is not supplied")]
     UnknownTable,
-}
-
-impl SubmitFault {
-    ghost use Rattle.std.specs.Prelude.{◌≡◌};
-    ghost use Rattle.tap_office.specs.Fault.{fault_code};
-
-    /// The fault's number in a fault frame: 2 to 6.
-    pub fn code(self) -> u8
-        ensures { result ≡ fault_code self }
-    {
-        match self {
-            SubmitFault::Conflict => 2,
-            SubmitFault::Halted => 3,
-            SubmitFault::Memory => 4,
-            SubmitFault::Full => 5,
-            SubmitFault::UnknownTable => 6,
-        }
-    }
 }
 
 impl From<AllocError> for SubmitFault {

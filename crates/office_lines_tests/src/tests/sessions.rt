@@ -6,11 +6,11 @@ ghost use Rattle.tap_office.specs.Opening.{opened_of};
 use super::notices::Counting;
 use super::*;
 use gate_session::{End, Served, serve};
-use office_lines::OfficeClerk;
+use office_lines::{OfficeClerk, code_of};
 use std::marker::Brand;
 use std::sync::Wait;
 use std::sync::atomic::{AtomicU64, Ordering};
-use tap_office::{Desk, Named, Office, Seat};
+use tap_office::{Desk, Named, Office, Seat, SubmitFault};
 use test_streams::{Pieces, Taker};
 
 /// The first example: card 1 is issued by gate 7 at 07:50 on Monday, 6 January 2025, topped up by
@@ -327,5 +327,19 @@ fn a_watch_is_shown_each_touch_that_was_accepted_once(rt: HostRuntime) {
         let outcomes = tried(&rt, all_of(MORNING), all_of(later));
         assert_same(&rt, outcomes.first.accepted, 4);
         assert_same(&rt, outcomes.second.accepted, 0);
+    }
+}
+
+#[test]
+fn each_fault_of_the_office_has_its_number(rt: HostRuntime) {
+    let rows = [
+        (SubmitFault::Conflict, 2),
+        (SubmitFault::Halted, 3),
+        (SubmitFault::Memory, 4),
+        (SubmitFault::Full, 5),
+        (SubmitFault::UnknownTable, 6),
+    ];
+    for (fault, number) in rows {
+        assert_same_at(&rt, code_of(fault).code(), number, fault);
     }
 }

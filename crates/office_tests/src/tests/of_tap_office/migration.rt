@@ -106,7 +106,6 @@ fn a_journal_that_was_carried_over_is_gone_on_with(rt: HostRuntime) {
 #[test]
 fn a_full_journal_that_was_carried_over_takes_no_further_touch(rt: HostRuntime) {
     let alloc = rt.alloc();
-    assert_same(&rt, SubmitFault::Full.code(), 5);
     let steps = [
         from_first(FURTHER, Answer::Fault(SubmitFault::Full)),
         from_first(ENTER, Answer::Again(2, REPLIES[2])),

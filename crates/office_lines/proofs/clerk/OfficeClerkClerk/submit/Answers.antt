@@ -30,7 +30,7 @@ returns-after-receipt g c =
         goes_on = filed c.args.touch before after r files;
         learnt = c.learn.ensures.points;
         list = c.learn.ensures.list;
-        is = refl;
+        is = c.reply.ensures;
       }),
       search rules,
     )
