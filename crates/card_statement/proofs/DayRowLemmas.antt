@@ -1,13 +1,12 @@
 -- The rows of fare days, made day by day from lists whose days fall.
 use Rattle.std.proofs.Common.{◌≡◌, ℤ, ◌≤ℤ◌, ◌<ℤ◌, Bool, true, false, ◌||◌, List, [], ◌∷◌, ◌++◌}
-use Rattle.std.proofs.Common.{map, take, drop, refl, sym, ap, ◌∙◌, subst, arith, inl, inr, Some, None}
+use Rattle.std.proofs.Common.{map, take, drop, refl, sym, ap, ◌∙◌, subst, arith, inl, inr, Some}
 use Rattle.std.proofs.Common.{◌⊎◌, append_assoc}
 use Rattle.std.specs.Int.{int_max}
 use Rattle.std.specs.Ordering.{int_eq}
 use Rattle.std.proofs.lemmas.Bool.{cases_Bool, both_ways}
 use Rattle.std.proofs.lemmas.Bool.Decides.{Decides-int_eq}
 use Rattle.std.proofs.lemmas.Int.{ints, clamps, by_lt_z}
-use Rattle.std.proofs.lemmas.List.{append-nil}
 use Rattle.fare_table.specs.declared.rows.Cap.{Cap}
 use Rattle.oyster_account.specs.declared.journey.Journey.{Journey}
 use Rattle.oyster_account.specs.Journey.{journey_day}
@@ -125,39 +124,7 @@ is-latest (journey ∷ made) (touch ∷ missed) day made_falls missed_falls is =
       missed_up = (omega (arith, ints, clamps, same), missed_falls);
     }
 
--- without a latest day nothing is left
-pub none-left : (made : List Journey) (missed : List Incomplete) (left : List ℤ) → latest made missed ≡ None →
-    AreRowDays made missed left → left ≡ []
-none-left [] [] [] is days = refl
-none-left [] [] (d ∷ left) is days =
-    let has : has_day d (d ∷ left) ≡ true = or-first (int_eq d d) (has_day d left) (int_eq-same d) in
-    absurd (both_ways (has_day d (d ∷ left)) (days d) has)
-none-left [] (touch ∷ missed) left is days = absurd (cc)
-none-left (journey ∷ made) [] left is days = absurd (cc)
-none-left (journey ∷ made) (touch ∷ missed) left is days = absurd (cc)
-
 module _ (caps : ℤ → List Cap) (js : List Journey) (is : List Incomplete) where
-  -- at first all days are left
-  pub under-way-begins : AreFalling journey_day js → AreFalling incomplete_day is → IsUnderWay caps js is js is []
-  under-way-begins made_falls missed_falls = record {
-    made_falls = made_falls;
-    missed_falls = missed_falls;
-    made_on = λ day has. refl;
-    missed_on = λ day has. refl;
-    rest = λ days falls with_rows. (days, record { falls = falls; with_rows = with_rows; rows_first = refl });
-  }
-
-  -- at the end the rows are those of all days
-  pub under-way-ends : (made : List Journey) (missed : List Incomplete) (rows : List DayContent) →
-      latest made missed ≡ None → IsUnderWay caps js is made missed rows → (days : List ℤ) → AreDaysFalling days →
-      AreRowDays js is days → rows ≡ map (day_row caps js is) days
-  under-way-ends made missed rows none under days falls with_rows =
-      let left : List ℤ = (under.rest days falls with_rows).0 in
-      let are = (under.rest days falls with_rows).1 in
-      sym (append-nil rows)
-      ∙ ap (λ l. rows ++ map (day_row caps js is) l) (sym (none-left made missed left none are.with_rows))
-      ∙ are.rows_first
-
   module _ (made : List Journey) (missed : List Incomplete) (day : ℤ) where
     abbrev made_later : List Journey
     made_later = drop (run_length journey_day day made) made

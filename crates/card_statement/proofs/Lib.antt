@@ -8,4 +8,3 @@ mod DayRowLemmas
 mod RowDayLemmas
 mod CountLemmas
 pub mod KnownLemmas
-mod ReadyLemmas

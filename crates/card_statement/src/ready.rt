@@ -3,7 +3,7 @@
 ghost use Rattle.std.specs.Prelude.{◌≡◌, List, [], ◌∷◌, ◌++◌, true, IfOk};
 ghost use Rattle.oyster_account.specs.declared.reply.Judged.{Judged};
 ghost use Rattle.oyster_account.specs.Scheme.{scheme_of};
-ghost use Rattle.oyster_account.specs.Travel.{travel, IsKnown};
+ghost use Rattle.oyster_account.specs.Travel.{travel};
 ghost use Rattle.oyster_account.specs.Order.{IsInOrder};
 ghost use Rattle.oyster_account.specs.History.{accepted, counts_for};
 ghost use Rattle.card_statement.specs.Known.{IsActKnown, AreStationsKnown};

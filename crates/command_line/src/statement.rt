@@ -2,7 +2,6 @@
 
 ghost use Rattle.std.specs.Prelude.{◌≡◌, true, IfSome};
 ghost use Rattle.station_limits.specs.declared.limits.TheConstants.{CARDS_LIMIT};
-ghost use Rattle.program_options.specs.Numbers.{IsWithin};
 ghost use Rattle.command_line.specs.Arguments.{IsStatementAllowed, IsUpTo};
 
 use crate::history::day_asked;

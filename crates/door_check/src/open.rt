@@ -1,6 +1,6 @@
 //! The door in the file that a command names.
 
-ghost use Rattle.std.specs.Prelude.{◌≡◌, Some, IfOk, IfErr};
+ghost use Rattle.std.specs.Prelude.{IfOk, IfErr};
 ghost use Rattle.door_file.specs.Door.{rules_of};
 ghost use Rattle.door_file.specs.Meaning.{MeansDoor};
 ghost use Rattle.door_check.specs.Doors.{IsDoorIn, IsNoDoorIn, IsDoorFault};

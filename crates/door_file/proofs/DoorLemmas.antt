@@ -23,7 +23,6 @@ use Rattle.door_file.specs.Faults.{table_faults, rule_faults, rules_faults, faul
 use Rattle.door_file.specs.Content.{entry_in, entries_in}
 use Rattle.door_file.specs.Meaning.{SaysEntry, SaysRules, SaysDoor, MeansDoor}
 use Rattle.door_file.specs.declared.door.TheConstants.{MOST_BYTES}
-use Rattle.door_file.specs.declared.fault.DoorFault.{DoorFault}
 use Rattle.door_file.specs.declared.fault.DoorFault.TheVariants.{TooLong}
 use Rattle.door_file.specs.declared.key.Key.TheVariants as key
 use Rattle.door_file.specs.declared.key.Shape.TheVariants.{Rules}
@@ -249,12 +248,6 @@ none-means text e =
     let p = size-within (nat_lt MOST_BYTES (length text)) TooLong (fault_of_tree (parse_document text)) e in
     let tree = some-tree text (parse_document text) refl p.1 in
     (entries_in tree.0, text-means text tree.0 tree.1 e)
-
--- a text whose tree has a fault means no door
-pub fault-means : (text : List ℕ) (fault : DoorFault) (entries : List Entry)
-    → fault_of_tree (parse_document text) ≡ Some fault → MeansDoor text entries → ⊥
-fault-means text fault entries e means =
-    let none = ap fault_of_tree means.parsed ∙ says-none means.tree entries means.says in cc
 
 same_some : {X : Type 0} (x y : X) → Some x ≡ Some y → x ≡ y
 same_some x y e = cc

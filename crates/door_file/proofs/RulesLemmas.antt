@@ -1,11 +1,11 @@
 -- The first fault of the rules of a list, rule by rule. The rule at i counts as the n-th.
 use Rattle.std.proofs.Common.{◌≡◌, ℕ, ◌+◌, ◌<◌, ◌++◌, List, [], ◌∷◌, take, drop, length, get_or, map}
-use Rattle.std.proofs.Common.{Some, None, ap, sym, ◌∙◌}
+use Rattle.std.proofs.Common.{Some, ap, sym, ◌∙◌}
 use Rattle.std.proofs.lemmas.List.{drop_more, take_more, map-append}
 use Rattle.toml.specs.View.{view}
 use Rattle.toml.specs.declared.value.Value.{Value}
 use Rattle.toml_reading.specs.First.{first}
-use Rattle.toml_reading.proofs.FirstLemmas.{append-none, append-some}
+use Rattle.toml_reading.proofs.FirstLemmas.{append-some}
 use Rattle.door_file.specs.Faults.{rule_faults, rules_faults}
 use Rattle.door_file.specs.declared.fault.DoorFault.{DoorFault}
 
@@ -28,12 +28,6 @@ module _ (n : ℕ) (rules : List Value) (i : ℕ) (v : Value) (within : i < leng
       ++ rules_faults (n + 1) (map view (take i rules) ++ view w ∷ []) (map view (drop (i + 1) rules)))) (sym here)
       ∙ ap (λ seen. first (rule_faults n (map view (take i rules)) (view v)
       ++ rules_faults (n + 1) seen (map view (drop (i + 1) rules)))) (before_next rules i v within here)
-
-  -- no fault in the rule at i
-  pub rules-pass : first (rule_faults n (map view (take i rules)) (view v)) ≡ None
-      → first (rules_faults n (map view (take i rules)) (map view (drop i rules)))
-      ≡ first (rules_faults (n + 1) (map view (take (i + 1) rules)) (map view (drop (i + 1) rules)))
-  rules-pass none = left ∙ append-none _ _ none
 
   -- the first is that of the rule at i
   pub rules-found : (fault : DoorFault) → first (rule_faults n (map view (take i rules)) (view v)) ≡ Some fault

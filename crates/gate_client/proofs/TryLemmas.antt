@@ -136,10 +136,6 @@ module _ {R W : Type 0} (remaining : R → Option (List ℕ)) (contents : W → 
     pub ready_is : ready ≡ ready_after line failed
     pub count_is : length failed ≡ count
 
-  -- none was made yet
-  pub trying-none : (t : Touch) (line : Option (Line R W)) → IsTrying t line line 0
-  trying-none t line = record { failed = []; have_failed = tt; ready_is = refl; count_is = refl }
-
   -- behind any tries a new line is ready, if one is made
   none-after : (tried : List (Try R W)) → ready_after None tried ≡ None
   none-after [] = refl

@@ -1,20 +1,19 @@
 -- What is given up in a gate's file: by a touch that was asked, by one that is given up, and of the one that waits.
 use Rattle.std.proofs.Common.{◌≡◌, ◌⊎◌, inl, inr, ℕ, ◌+◌, ◌<◌, ◌≤◌, ◌==◌, Bool, true, false, not, List, []}
-use Rattle.std.proofs.Common.{◌∷◌, ◌++◌, length, refl, sym, ap, ◌∙◌, subst, arith, Option, Some, None, is_some}
+use Rattle.std.proofs.Common.{◌∷◌, ◌++◌, length, refl, sym, ap, ◌∙◌, arith, Option, Some, None, is_some}
 use Rattle.std.proofs.Common.{append-nil, length-append}
 use Rattle.std.specs.Prelude.{Contains, slice_get, if◌then◌else◌}
 use Rattle.std.proofs.lemmas.List.Elements.{filter-append, filter_agree}
 use Rattle.std.proofs.lemmas.Option.{slice_get_within}
 use Rattle.oyster_account.specs.declared.touch.Touch.{Touch}
-use Rattle.reply_book.specs.Names.{AreNamedOnce}
 use Rattle.reply_book.proofs.PlaceLemmas.{slice_get-append_left, slice_get-behind, slice_get-same}
 use Rattle.reply_book.proofs.NameLemmas.{both, equal, equal-refl}
 use Rattle.gate_client.specs.File.{AreNumbered, last_of, waiting_at, waiting_of}
 use Rattle.gate_client.proofs.NumberLemmas.{by-number, last_of-push}
 use Rattle.gate_law.specs.Joint.{has_number, is_given_up, not_given_up}
-use Rattle.gate_law.specs.Agreement.{AreAllButLast, AreInOrder, AreNamedAlike}
+use Rattle.gate_law.specs.Agreement.{AreInOrder, AreNamedAlike}
 use Rattle.gate_law.proofs.ListLemmas.{push-both, read-push, read-end}
-use Rattle.gate_law.proofs.FilterLemmas.{filter-has, filter-of, filter-all, filter-one, filter-twice}
+use Rattle.gate_law.proofs.FilterLemmas.{filter-has, filter-of, filter-one, filter-twice}
 
 -- two numbers that aren't the same
 pub differ : (m n : ℕ) → (m ≡ n → ⊥) → (m == n) ≡ false
@@ -74,12 +73,6 @@ given_up-asked asked t number n = elim (read-push asked t n) [
 ]
 
 -- ---- which are left
-
--- where none is given up, all
-pub none-given_up : (asked touches : List Touch) → ((n : ℕ) → is_given_up asked n ≡ false)
-    → not_given_up asked touches ≡ touches
-none-given_up asked touches none =
-    filter-all (λ (t : Touch). not (is_given_up asked t.number)) touches (λ t there. ap not (none t.number))
 
 module _ (asked : List Touch) where
   abbrev stays : Touch → Bool
@@ -217,20 +210,6 @@ module _ (gate : ℕ) (asked : List Touch) (all : AreNumbered gate asked) where
         let place : i ≡ up.before + 1 = up.behind in omega (arith, n, place)
   ]
 
-  -- what is given up stands twice: at its own place, and right behind that
-  pub stands-twice : (n : ℕ) → is_given_up asked n ≡ true
-      → (before : ℕ) × (t : Touch) × (n ≡ before + 1) × (slice_get asked before ≡ Some t)
-      × (slice_get asked n ≡ Some t)
-  stands-twice n is =
-      let at = given_up-at asked n is in
-      elim (all n at.0 at.1) [
-        | inl here ↦
-            let by : at.0.number ≡ n + 1 = here.by_place in
-            let same : at.0.number ≡ n = at.2 in
-            absurd (omega (arith, by, same))
-        | inr up ↦ (up.before, at.0, up.behind, up.same, at.1)
-      ]
-
   -- two touches with one number are one
   pub one_touch : (i j : ℕ) (a b : Touch) → slice_get asked i ≡ Some a → slice_get asked j ≡ Some b
       → a.number ≡ b.number → a ≡ b
@@ -257,22 +236,3 @@ module _ (gate : ℕ) (asked : List Touch) (all : AreNumbered gate asked) where
           | inr up ↦ inr up
         ],
       )
-
--- ---- files without a touch that was given up
-
-module _ (asked : List Touch) (none : (n : ℕ) → is_given_up asked n ≡ false) where
-  -- all are in order
-  pub order-all : (row : List Touch) (waits : Bool) → AreInOrder row asked waits
-      → (row ≡ asked) ⊎ AreAllButLast row asked waits
-  order-all row waits =
-      subst (λ (l : List Touch). (l ≡ not_given_up asked asked) ⊎ AreAllButLast l (not_given_up asked asked) waits
-      → (row ≡ asked) ⊎ AreAllButLast row asked waits) (sym (none-given_up asked row none))
-      (subst (λ (l : List Touch). (row ≡ l) ⊎ AreAllButLast row l waits → (row ≡ asked) ⊎ AreAllButLast row asked waits)
-      (sym (none-given_up asked asked none)) (λ is. is))
-
-  -- and no name stands twice
-  pub once-all : AreNamedAlike asked → AreNamedOnce asked
-  once-all alike i j a b at_i at_j same = elim (alike i j a b at_i at_j same).1 [
-    | inl place ↦ place
-    | inr up ↦ let no : true ≡ false = sym up ∙ none a.number in absurd cc
-  ]

@@ -39,13 +39,6 @@ module _ {X : Type 0} (p : X → Bool) where
       ]
       by_test later false e is = later is
 
-  -- where all pass nothing is dropped
-  pub filter-all : (xs : List X) → ((x : X) → Contains xs x → p x ≡ true) → filter p xs ≡ xs
-  filter-all [] each = refl
-  filter-all (y ∷ ys) each =
-      ap (λ (b : Bool). cond b (y ∷ filter p ys) (filter p ys)) (each y (contained (y ∷ ys) 0 y refl))
-      ∙ ap (λ (l : List X). y ∷ l) (filter-all ys (λ x there. each x (contains-behind y ys x there)))
-
   -- of one item, that passes or doesn't
   pub filter-one : (x : X) (b : Bool) → p x ≡ b → filter p (x ∷ []) ≡ cond b (x ∷ []) []
   filter-one x b is = ap (λ (c : Bool). cond c (x ∷ []) []) is

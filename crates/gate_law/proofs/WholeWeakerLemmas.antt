@@ -138,10 +138,6 @@ module _ (tables : Tables) where
     is = refl;
   })
 
-  -- a run to where the caller was told, and one step more
-  abbrev to_heard : List Whole
-  to_heard = asked tables ∷ sent tables ∷ entered ∷ answered ∷ heard ∷ []
-
   told-then : (step : Whole → Whole → Type 0) (last : Whole) → step heard last
       → IsRunWith step each 10 here (asked tables ∷ sent tables ∷ entered ∷ answered ∷ heard ∷ last ∷ []) last
   told-then step last is = (

@@ -11,7 +11,7 @@ use Rattle.journal_audit.specs.declared.fault.AuditFault.{AuditFault}
 use Rattle.journal_audit.specs.declared.fault.AuditFault.TheVariants.{Memory, Write, Journal, Header as OtherHeader}
 use Rattle.journal_audit.specs.declared.fault.AuditFault.TheVariants.{Seal, Gate, Card, Place, Balance}
 use Rattle.journal_audit.specs.Balances.{HasRefused, HasWritten, HasRows, AreBalances, HasPlace, touches_before}
-use Rattle.journal_audit.specs.Balances.{HasRefusedTouches, AreTouchesOf, IsTooFar}
+use Rattle.journal_audit.specs.Balances.{HasRefusedTouches, AreTouchesOf}
 use Rattle.journal_audit.specs.declared.balances.row.Row.{Row}
 use Rattle.journal_audit.specs.declared.balances.totals.Totals.{Totals}
 use Rattle.journal_audit.specs.Totals.{totals_of, AreTotalsBalanced}
@@ -37,30 +37,6 @@ refused-alone tables at bytes digest refused same (inl memory) found =
     inl (none-memory refused (Some digest) bytes memory found)
 refused-alone tables at bytes digest refused same (inr alone) found =
     inr (inl (subst (λ (d : List ℕ). IsRefusedAlone (Some d) bytes refused) same (alone, found)))
-
--- so is that of a place behind the touches
-pub refused-place : (tables : Tables) (at : Option ℕ) (bytes : List ℕ) (format : Format) (h : Header)
-    (touches : List Touch) (fault : AuditFault) → IsJournal (Some tables) bytes format h touches
-    → IsTooFar at touches fault → HasRefused tables at bytes fault
-refused-place tables at bytes format h touches Memory journal far = absurd far
-refused-place tables at bytes format h touches Write journal far = absurd far
-refused-place tables at bytes format h touches (Journal fault) journal far = absurd far
-refused-place tables at bytes format h touches (OtherHeader fault) journal far = absurd far
-refused-place tables at bytes format h touches (Seal fault) journal far = absurd far
-refused-place tables at bytes format h touches (Gate fault) journal far = absurd far
-refused-place tables at bytes format h touches (Card card cards) journal far = absurd far
-refused-place tables at bytes format h touches (Place count) journal far =
-    record {
-      format = format;
-      h = h;
-      touches = touches;
-      place = far.0;
-      journal = journal;
-      named = far.1;
-      fewer = far.2;
-      all = far.3;
-    }
-refused-place tables at bytes format h touches (Balance card) journal far = absurd far
 
 -- and that of entering the touches
 pub refused-touches : (tables : Tables) (at : Option ℕ) (bytes : List ℕ) (h : Header) (touches : List Touch)

@@ -1,7 +1,5 @@
 //! A clerk behind a door, of which a watch is shown what the door keeps out.
 
-ghost use Rattle.std.specs.Prelude.{◌≡◌};
-
 use crate::notice::Watch;
 use door_clerk::{DoorClerk, Surroundings};
 use gate_session::{Answer, Clerk};

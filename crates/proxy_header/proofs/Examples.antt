@@ -1,15 +1,14 @@
 -- Headers that HAProxy 2.6.12 sent, byte by byte, and what the definitions say of them: its options were
 -- send-proxy-v2-ssl-cn, and of the health check check-send-proxy.
-use Rattle.std.proofs.Common.{◌≡◌, ℕ, ◌<◌, ◌≤◌, List, [], ◌∷◌, ◌++◌, length, drop, refl, inl, inr, arith, lit<, lit≤}
+use Rattle.std.proofs.Common.{ℕ, ◌<◌, ◌≤◌, List, [], ◌∷◌, length, drop, refl, inl, inr, arith, lit<, lit≤}
 use Rattle.std.specs.Prelude.{Some, None, All, slice_index_or}
 use Rattle.std.specs.Str.{chars, IsUtf8}
 use lib.Utf8.{encode}
 use Rattle.std.proofs.lemmas.List.Elements.{All-nil, All-cons}
 use Rattle.proxy_header.specs.declared.fault.HeaderFault.TheVariants as faults
-use Rattle.proxy_header.specs.Tlvs.{TypeLengthValue, TlvFits, IsRow, tlv_bytes}
-use Rattle.proxy_header.specs.Names.{IsVerified, IsSsl, Shows, IsControl, HasControl, IsName}
-use Rattle.proxy_header.specs.Front.{front_bytes}
-use Rattle.proxy_header.specs.Header.{IsHeader, IsLocal, IsPassed, IsNoHeader}
+use Rattle.proxy_header.specs.Tlvs.{TypeLengthValue, TlvFits}
+use Rattle.proxy_header.specs.Names.{IsVerified, Shows, IsControl, HasControl, IsName}
+use Rattle.proxy_header.specs.Header.{IsHeader, IsNoHeader}
 
 -- ---- parts of these headers
 

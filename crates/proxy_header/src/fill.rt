@@ -1,6 +1,6 @@
 //! Reads so many bytes, and not one more.
 
-ghost use Rattle.std.specs.Prelude.{◌≡◌, OnOk, IfErr, length};
+ghost use Rattle.std.specs.Prelude.{OnOk, IfErr, length};
 ghost use Rattle.std.specs.Io.KnownBytes.{Consumes};
 ghost use Rattle.proxy_header.specs.Reading.{IsSizeRead, HasEndedEarly};
 

@@ -1,6 +1,6 @@
 //! The name of a certificate.
 
-ghost use Rattle.std.specs.Prelude.{◌≡◌, ◌≤◌, ◌↔◌, IsTrue, MatchOption, Some};
+ghost use Rattle.std.specs.Prelude.{◌≡◌, ◌↔◌, IsTrue, MatchOption, Some};
 ghost use Rattle.proxy_header.specs.Names.{IsName, HasControl};
 ghost use Rattle.proxy_header.specs.Header.{name_text};
 

@@ -1,5 +1,5 @@
 //! A touch that waits is sent, committed and answered.
-ghost use Rattle.std.specs.Prelude.{◌≡◌, ℕ, Bool, List, [], Some, IsSome, IfOk, OnOk, OnErr, Err};
+ghost use Rattle.std.specs.Prelude.{◌≡◌, ℕ, Bool, List, Some, IsSome, IfOk, OnOk, OnErr, Err};
 ghost use Rattle.oyster_account.specs.declared.touch.Touch.{Touch};
 ghost use Rattle.oyster_account.specs.Touch.{Fits};
 ghost use Rattle.gate_session.specs.declared.answer.Answer.TheVariants as answers;

@@ -1,3 +1,2 @@
-mod EntranceLemmas
 mod PlacesLemmas
 mod Examples

@@ -1,6 +1,6 @@
 //! The door of a station, as its lines share it.
 ghost use Rattle.std.specs.Prelude.{◌≡◌, ◌↔◌, map, None, Some, IfOk, IfErr, length, option_map};
-ghost use Rattle.std.specs.Prelude.{◌<◌, slice_get, vec_len, IsSome};
+ghost use Rattle.std.specs.Prelude.{◌<◌, slice_get, vec_len};
 ghost use Rattle.door_file.specs.Rule.{entry_of, rule_for};
 ghost use Rattle.door_file.specs.Door.{rules_of};
 ghost use Rattle.station_door.specs.Entrances.{AreNumbered};

@@ -7,7 +7,7 @@ use super::{MONDAY, TRIES, assert_same, moment, passage};
 use crate::statement::{Day, Incomplete, JourneyRow, Reason, Statement, TopUp};
 use fare_schedule::Schedule;
 use fare_table::{EXAMPLE_TABLE, Fare, Fares};
-use money_time::{Stamp, Window};
+use money_time::Window;
 use oyster_account::{Act, Journey, Judged, Passage, Reply, Touch};
 use std::alloc::Global;
 use std::process::Abort;

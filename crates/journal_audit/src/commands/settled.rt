@@ -1,6 +1,6 @@
 //! A journal's file that is read to its end while a server may write it.
 
-ghost use Rattle.std.specs.Prelude.{◌≡◌, IfOk, IfErr, IfSome};
+ghost use Rattle.std.specs.Prelude.{IfOk, IfErr, IfSome};
 ghost use Rattle.console.specs.Files.{IsFileFault};
 ghost use Rattle.journal_audit.specs.Behind.{HasBehind};
 

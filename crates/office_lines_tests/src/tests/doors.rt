@@ -8,7 +8,6 @@ use door_file::Door;
 use office_lines::{Notices, Reason, Tally, Watch, Watched};
 use station_door::{ShutOut, StationDoor};
 use std::alloc::Global;
-use std::process::Abort;
 use std::sync::atomic::Ordering;
 use std::test::Fail;
 

@@ -1,6 +1,5 @@
-use Rattle.std.proofs.Common.{◌≡◌, ◌+◌, ◌∙◌, ℕ, List, Option, Some, sym, ap, arith}
+use Rattle.std.proofs.Common.{◌≡◌, ◌∙◌, sym, ap, arith}
 use Rattle.std.specs.Prelude.{slice_get}
-use Rattle.oyster_account.specs.declared.touch.Touch.{Touch}
 use Rattle.gate_client.proofs.NumberLemmas.{by-number}
 use Rattle.gate_client.proofs.FrameLemmas.{one_some}
 use Rattle.gate_client.proofs.laws.one_number.Goals as goal

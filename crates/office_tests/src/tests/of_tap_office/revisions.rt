@@ -1,5 +1,5 @@
 //! Revisions of fares. They are committed and stay; one to a table that isn't there is no entry.
-use super::steps::{outcome_of, work, work_with, worked};
+use super::steps::{work, work_with, worked};
 use super::*;
 use tap_disk::Disk;
 use tap_journal::{Discrepancy, JournalFault};

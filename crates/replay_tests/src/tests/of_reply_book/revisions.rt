@@ -1,8 +1,7 @@
 //! Revisions in a book, with the values of FARES.md, "Revision".
 
-ghost use Rattle.std.specs.Prelude.{◌≡◌, ◌<◌, length, []};
-ghost use Rattle.fare_schedule.specs.Schedule.{revisions_of};
-ghost use Rattle.reply_book.specs.Book.{entries_of, Stands};
+ghost use Rattle.std.specs.Prelude.{◌<◌, length, []};
+ghost use Rattle.reply_book.specs.Book.{Stands};
 
 use super::revised::REVISED_DIGEST;
 use super::rows::touch;

@@ -6,7 +6,7 @@ use Rattle.reply_book.specs.declared.answering.AnswerFault.TheVariants.{Memory}
 use Rattle.reply_book.specs.Tables.{Tables}
 use Rattle.reply_book.specs.Legal.{history_of, judge_after}
 use Rattle.reply_book.specs.declared.book.Book.{Book}
-use Rattle.reply_book.specs.Book.{entries_of, cards_of, tables_of, room_of}
+use Rattle.reply_book.specs.Book.{entries_of, cards_of, tables_of}
 use Rattle.reply_book.specs.Answering.{IsAnswered}
 use Rattle.reply_book.proofs.book.Book.answer_new.Goals as goal
 
