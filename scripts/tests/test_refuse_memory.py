@@ -88,7 +88,7 @@ FRAMES: list[tuple[bytes, bytes, bytes | None]] = [
     (codec.enquiry(1), codec.framed(">BBqI", codec.HOLDING, 1, 100, 3), None),
 ]
 
-# How a server may end that found no memory before it listened. The disk doesn't say why it couldn't open a file.
+# How a server may end that found no memory before it listened, as for the opening of a file.
 WANTS = ("fault run 1 Memory\n", "fault file\n", "fault journal 1 Memory\n")
 # How another command may end so, and an audit, a run of gate_send and a migration.
 RUN_WANTS = ("fault run 1 Memory\n",)

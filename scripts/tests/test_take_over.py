@@ -96,11 +96,12 @@ class TakeOver(harness.ProgramTest):
         self.journal.write_bytes(layout.journal_of([], CAPACITY, CARDS, digest))
         self.addresses = [("127.0.0.1", int(port)) for port in free_ports(2)]
         self.servers: dict[int, subprocess.Popen[str]] = {}
+        self.strict = ["--strict"]
 
     def words(self, place: int, *more: str) -> list[str]:
         host, port = self.addresses[place]
         return ["serve", "--table", str(EXAMPLE), "--journal", str(self.journal), "--cards", str(CARDS),
-                "--capacity", str(CAPACITY), "--listen", f"{host}:{port}", "--lines", str(GATES + 1), "--strict", *more]
+                "--capacity", str(CAPACITY), "--listen", f"{host}:{port}", "--lines", str(GATES + 1), *self.strict, *more]
 
     def start(self, place: int) -> str:
         """Starts the server of a place, on standby, and gives the first line that it says."""
@@ -228,16 +229,24 @@ class TakeOver(harness.ProgramTest):
         self.assertEqual(self.frames(), [OF_GATES.touch(1, 1).hex(), OF_GATES.touch(1, 2).hex()])
         self.assertEqual(old.read_bytes(), before)
 
-    def test_a_journal_that_is_taken_away_before_its_lock_is_not_made(self) -> None:
+    def assert_not_made(self, why: str) -> None:
+        """A journal that is taken away before its lock isn't made, for this reason."""
         server, let_go = self.held()
         old = self.journal.with_name("old")
         os.rename(self.journal, old)
         before = old.read_bytes()
         let_go()
-        self.assertEqual(server.communicate(timeout=TIME)[1], f"fault file\n  {self.journal}: no such file\n")
+        self.assertEqual(server.communicate(timeout=TIME)[1], f"fault file\n  {self.journal}: {why}\n")
         self.assertEqual(server.returncode, 1)
         self.assertFalse(self.journal.exists())
         self.assertEqual(old.read_bytes(), before)
+
+    def test_a_journal_that_is_taken_away_before_its_lock_is_not_made(self) -> None:
+        self.assert_not_made("no such file")
+
+    def test_a_server_that_may_make_its_journal_does_not_make_it_then(self) -> None:
+        self.strict = []
+        self.assert_not_made("refused for a moment, or for want of memory")
 
     def test_without_standby_a_second_server_is_refused(self) -> None:
         self.assertEqual(self.start(0), self.listening(0))

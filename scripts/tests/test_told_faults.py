@@ -257,7 +257,7 @@ class Files(Told):
                          (1, "", f"fault file\n  {mounted}/journal: no room on the disk\n"))
 
     def test_calls_that_fail_on_a_journal_are_told(self) -> None:
-        """What fails once is well when it is looked at again, and what goes on failing is told."""
+        """A call that fails once is told as one that goes on failing."""
         content = layout.journal_of(FOUR, 5, 10, DIGEST)
         self.journal.write_bytes(content)
         descriptors = "too many open files"
@@ -266,11 +266,11 @@ class Files(Told):
                                  ("openat", "ENOSPC", "no room on the disk"), ("openat", "EPERM", "Permission denied"),
                                  ("openat", "EIO", "error 5 of the system"),
                                  ("flock", "EAGAIN", "another server or run has it"),
-                                 ("flock", "ENOLCK", "error 37 of the system")):
-            for when, said in (("", why), (":when=1", "refused for a moment, or for want of memory")):
+                                 ("flock", "ENOLCK", "error 37 of the system"), ("fsync", "EIO", "error 5 of the system")):
+            for when in ("", ":when=1"):
                 with self.subTest(call, error=error, when=when):
                     self.assertEqual(self.failing(call, f"{error}{when}", self.journal, self.serving()),
-                                     (1, "", f"fault file\n  {self.journal}: {said}\n"))
+                                     (1, "", f"fault file\n  {self.journal}: {why}\n"))
                     self.assertEqual(self.journal.read_bytes(), content)
 
     def test_calls_that_fail_on_a_table_are_told(self) -> None:

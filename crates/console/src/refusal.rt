@@ -106,18 +106,10 @@ fn has_folder<R: Files>(rt: &R, path: &str) -> bool {
 
 /// Why a file that was opened isn't read to its end: it may be no file of bytes.
 pub(crate) fn read_refusal<F: OpenFile>(file: &F) -> Refusal {
-    match kind_refusal(file) {
-        Some(refusal) => refusal,
-        None => Refusal::Unread,
-    }
-}
-
-/// What an open file is, where it isn't a file of bytes.
-pub fn kind_refusal<F: OpenFile>(file: &F) -> Option<Refusal> {
     match file.metadata() {
-        Ok(metadata) if metadata.is_file() => None,
-        Ok(metadata) if metadata.is_dir() => Some(Refusal::Folder),
-        Ok(_) => Some(Refusal::Device),
-        Err(error) => Some(Refusal::of(&error)),
+        Ok(metadata) if metadata.is_file() => Refusal::Unread,
+        Ok(metadata) if metadata.is_dir() => Refusal::Folder,
+        Ok(_) => Refusal::Device,
+        Err(error) => Refusal::of(&error),
     }
 }

@@ -4,8 +4,8 @@ use crate::arguments::Arguments;
 use crate::fault::{Detail, SendFault};
 use gate_client::{Client, ClientFault, FileFault};
 use std::alloc::Global;
-use std::fs::{self, File, OpenOptions, TryLockError};
-use std::io;
+use std::fmt::Display;
+use std::fs::{self, File, OpenOptions};
 use std::rt::Files;
 use tap_disk::{Disk, FileDisk, SystemError};
 use tap_journal::{HEADER_SIZE, MARK_CLOSED, NAME};
@@ -113,50 +113,17 @@ fn disk_at<R: AllocGlobal + Files<File = File>>(
     asked: &Arguments<'_>,
 ) -> Result<FileDisk, SendFault> {
     if !asked.is_new {
-        if let Err(error) = opened(rt, asked.file, false) {
+        let opened = OpenOptions::new()
+            .read(true)
+            .write(true)
+            .open(rt, asked.file);
+        if let Err(error) = opened {
             return Err(SendFault::File(said(rt.alloc(), asked.file, &error)));
         }
     }
     match FileDisk::at(rt, asked.file) {
         Ok(disk) => Ok(disk),
-        Err(_) => Err(SendFault::File(refusal(rt, asked.file))),
-    }
-}
-
-/// Why the system doesn't give a file, which a disk doesn't say: its steps are made again.
-fn refusal<R: AllocGlobal + Files<File = File>>(rt: &R, path: &str) -> Detail {
-    let alloc = rt.alloc();
-    match opened(rt, path, true) {
-        Ok(file) => {
-            if !is_file(&file) {
-                return format!(in alloc; "  {path}: a folder, a device or a pipe").ok();
-            }
-            match file.try_lock() {
-                Err(TryLockError::WouldBlock) => {
-                    format!(in alloc; "  {path}: another run or a server has it").ok()
-                }
-                Err(TryLockError::Error(error)) => said(alloc, path, &error),
-                Ok(()) => format!(in alloc; "  {path}: refused for a moment").ok(),
-            }
-        }
-        Err(error) => said(alloc, path, &error),
-    }
-}
-
-/// The file at a path, opened to be read and written.
-fn opened<R: Files<File = File>>(rt: &R, path: &str, is_made: bool) -> io::Result<File> {
-    OpenOptions::new()
-        .read(true)
-        .write(true)
-        .create(is_made)
-        .open(rt, path)
-}
-
-/// Whether an open file is one of bytes.
-fn is_file(file: &File) -> bool {
-    match file.metadata() {
-        Ok(metadata) => metadata.is_file(),
-        Err(_) => false,
+        Err(fault) => Err(SendFault::File(said(rt.alloc(), asked.file, &fault))),
     }
 }
 
@@ -168,12 +135,12 @@ pub(crate) fn file_named(alloc: Global, path: &str) -> Detail {
 /// The line that names a file and what the system said of a call on its disk, if anything.
 pub(crate) fn system_said(alloc: Global, path: &str, error: Option<SystemError>) -> Detail {
     match error {
-        Some(error) => format!(in alloc; "  {path}: {error}").ok(),
+        Some(error) => said(alloc, path, &error),
         None => file_named(alloc, path),
     }
 }
 
-/// The line that names a file and what the system says of it.
-fn said(alloc: Global, path: &str, error: &io::Error) -> Detail {
-    format!(in alloc; "  {path}: {error}").ok()
+/// The line that names a file and what is said of it.
+fn said<T: Display>(alloc: Global, path: &str, what: &T) -> Detail {
+    format!(in alloc; "  {path}: {what}").ok()
 }

@@ -53,14 +53,14 @@ impl<'a, R: AllocGlobal + Files<File = File>> JournalFiles<FileDisk> for SystemD
     fn open_alone(&self, path: &str) -> Result<FileDisk, CommandFault> {
         match FileDisk::read_only(self.rt, path) {
             Ok(disk) => Ok(disk),
-            Err(_) => Err(journal_fault(self.rt, path, false)),
+            Err(fault) => Err(journal_fault(self.rt, path, fault)),
         }
     }
 
     fn open(&self, path: &str) -> Result<FileDisk, CommandFault> {
         match FileDisk::at(self.rt, path) {
             Ok(disk) => Ok(disk),
-            Err(_) => Err(journal_fault(self.rt, path, true)),
+            Err(fault) => Err(journal_fault(self.rt, path, fault)),
         }
     }
 }

@@ -14,7 +14,7 @@ use std::fs::{self, File};
 use std::rt::Files;
 use std::thread;
 use std::time::{Clock, Duration};
-use tap_disk::{Disk, FileDisk, SystemError};
+use tap_disk::{Disk, FileDisk, OpenFault, SystemError};
 use tap_journal::{JournalFault, Refused};
 
 /// How many seconds a server on standby waits between two tries.
@@ -42,14 +42,6 @@ impl<R: Files<File = File>> JournalPath<'_, R> {
             None
         }
     }
-
-    /// Why the file wasn't had. One that has to be there, and was taken away meanwhile, isn't made.
-    fn refusal(&self) -> Refusal {
-        match self.missing() {
-            Some(refusal) => refusal,
-            None => journal_refusal(self.rt, self.path, true),
-        }
-    }
 }
 
 impl<R: AllocGlobal + Files<File = File> + Clock + Eprint> JournalLock<FileDisk>
@@ -60,7 +52,9 @@ impl<R: AllocGlobal + Files<File = File> + Clock + Eprint> JournalLock<FileDisk>
         }
         match FileDisk::at(self.rt, self.path) {
             Ok(disk) => Ok(disk),
-            Err(_) => Err(self.refusal()),
+            // It has to be there, and was taken away meanwhile.
+            Err(OpenFault::GivenUp) if self.is_strict => Err(Refusal::NoFile),
+            Err(fault) => Err(journal_refusal(self.rt, self.path, fault)),
         }
     }
 

@@ -7,13 +7,14 @@ ghost use Rattle.journal_audit.specs.Told.{told_fault};
 ghost use Rattle.console.specs.declared.fault.TrialFault.TheVariants.{File as FileFault};
 
 use crate::standby::refused_journal;
-use console::{Detail, Refusal, kind_refusal, open_refusal};
+use console::{Detail, Refusal, open_refusal};
 use door_check::NoDoor;
 use journal_audit::CommandFault;
 use std::alloc::Global;
-use std::fs::{File, OpenOptions, TryLockError};
+use std::fs::{File, OpenOptions};
 use std::io;
 use std::rt::Files;
+use tap_disk::OpenFault;
 
 /// The fault of an address that isn't listened on, by the error of the listening. One without a
 /// number is of the address's text.
@@ -37,30 +38,23 @@ pub fn door_fault(fault: NoDoor) -> CommandFault
     }
 }
 
-/// The fault of a journal's file that isn't had.
-pub fn journal_fault<R: AllocGlobal + Files<File = File>>(
-    rt: &R,
-    path: &str,
-    is_written: bool,
-) -> CommandFault
+/// The fault of a journal's file that isn't had, by what its opening found.
+pub fn journal_fault<R: AllocGlobal + Files>(rt: &R, path: &str, fault: OpenFault) -> CommandFault
     ensures { (detail : Detail) × (result ≡ CommandFault.Trial (FileFault detail)) }
 {
-    let refusal = journal_refusal(rt, path, is_written);
-    refused_journal(rt.alloc(), path, refusal)
+    refused_journal(rt.alloc(), path, journal_refusal(rt, path, fault))
 }
 
-/// Why a journal's file isn't had, which a disk doesn't say: its steps are made again one by one,
-/// up to the first that is refused. A file to be written is made where there is none, as the disk
-/// does.
-pub fn journal_refusal<R: Files<File = File>>(rt: &R, path: &str, is_written: bool) -> Refusal {
-    let opened = OpenOptions::new()
-        .read(true)
-        .write(is_written)
-        .create(is_written)
-        .open(rt, path);
-    match opened {
-        Ok(file) => lock_refusal(&file),
-        Err(error) => open_refusal(rt, path, &error),
+/// Why a journal's file isn't had, by what its opening found. An error without a number is for want
+/// of memory.
+pub fn journal_refusal<R: Files>(rt: &R, path: &str, fault: OpenFault) -> Refusal {
+    match fault {
+        OpenFault::System(error) if error.raw_os_error().is_some() => {
+            open_refusal(rt, path, &error)
+        }
+        OpenFault::NotRegular => Refusal::Device,
+        OpenFault::Locked => Refusal::Locked,
+        OpenFault::System(_) | OpenFault::GivenUp | OpenFault::Replaced => Refusal::Passed,
     }
 }
 
@@ -70,26 +64,5 @@ pub fn missing_refusal<R: Files<File = File>>(rt: &R, path: &str) -> Option<Refu
     match opened {
         Ok(_) => None,
         Err(error) => Some(open_refusal(rt, path, &error)),
-    }
-}
-
-/// Why an open file isn't locked.
-fn lock_refusal(file: &File) -> Refusal {
-    if let Some(refusal) = kind_refusal(file) {
-        return refusal;
-    }
-    match file.try_lock() {
-        Ok(()) => sync_refusal(file),
-        Err(TryLockError::WouldBlock) => Refusal::Locked,
-        Err(TryLockError::Error(error)) => Refusal::of(&error),
-    }
-}
-
-/// Why an open file that can be locked isn't had by a second descriptor, or isn't synced.
-fn sync_refusal(file: &File) -> Refusal {
-    let synced = file.try_clone().and_then(|second| second.sync_all());
-    match synced {
-        Ok(()) => Refusal::Passed,
-        Err(error) => Refusal::of(&error),
     }
 }
