@@ -118,7 +118,7 @@ FACTS: dict[str, tuple[Place | Read, list[Place]]] = {
     "the most bytes of a certificate's name": (
         Place(SHARED, r"const CERTIFICATE_NAME_LIMIT: usize = (?P<code>\d+);"), [
             Place("crates/proxy_header/src/fault.rt", r"longer than (?P<code>\d+) bytes"),
-            Place("crates/door_check/src/standing.rt", r"a text of 1 to (?P<code>\d+) bytes"),
+            Place("crates/table_check/src/standing.rt", r"a text of 1 to (?P<code>\d+) bytes"),
         ]),
     "Linux's number of ENFILE": (
         Place("crates/tcp_line/src/shortage.rt", r"const ENFILE: i32 = (?P<code>\d+);"), [

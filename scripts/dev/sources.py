@@ -32,7 +32,7 @@ FIELDS = re.compile(r"(?<=\{\n)(?: +(?:pub |pub\([^)]*\) )?\w+: .*\n| +ghost .*\
 SEEN = re.compile(r"\b(?:struct|enum|trait|const|static|type|macro_rules)\b|^ *pub |^impl\b[^{]* for |^ *ghost (?!use\b)", re.M)
 TESTS = re.compile(r"\n#\[cfg\(test\)\]\nmod tests;\n")
 # What holds functions: an impl or a trait, from its first column to the brace that opens it, and to the one that ends it.
-HEAD = r"^(?:pub )?(?:unsafe )?(?P<kind>impl|trait)\b(?P<head>[^{\n]*(?:\n[^{}\n]*)*?)\{"
+HEAD = r"^(?:pub(?:\([^)]*\))? )?(?:unsafe )?(?P<kind>impl|trait)\b(?P<head>[^{\n]*(?:\n[^{}\n]*)*?)\{"
 OWNER = re.compile(HEAD + "$", re.M)
 BLOCK = re.compile(HEAD + r"\n(?P<body>.*?)^\}", re.M | re.S)
 GENERICS = re.compile(r"^<(?:[^<>]|<[^<>]*>)*>")

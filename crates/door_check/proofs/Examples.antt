@@ -3,13 +3,14 @@ use Rattle.std.proofs.Common.{◌≡◌, refl, ◌++◌, [], ◌∷◌, true, fa
 use Rattle.std.specs.Prelude.{None, Some}
 use Rattle.std.specs.Fmt.{decimal, digits}
 use Rattle.station_limits.specs.declared.limits.TheConstants.{CERTIFICATE_NAME_LIMIT}
+use Rattle.table_check.specs.declared.standing.Allowed.TheVariants.{Name}
 use Rattle.door_file.specs.Rule.{Entry}
 use Rattle.door_file.specs.declared.key.TheConstants.{MOST_RULES}
 use Rattle.door_check.specs.Allowed.{printed_allowed}
 use Rattle.door_check.specs.Doors.{most_read}
 use Rattle.door_check.specs.Lines.{door_lines}
 use Rattle.door_check.specs.declared.open.TheConstants.{MOST_READ}
-use Rattle.door_check.specs.declared.standing.Allowed.TheVariants.{Rules, Name}
+use Rattle.door_check.specs.declared.standing.DoorAllowed.TheVariants.{Rules, Value}
 
 -- a rule with each key, whose name has a line feed
 gate : Entry
@@ -51,6 +52,6 @@ the_lines_of_a_door = refl
 the_limits :
     (most_read ≡ 1_048_577) × (MOST_READ ≡ most_read)
     × (printed_allowed Rules ≡ codes "a list of 1 to " ++ (decimal MOST_RULES ++ codes " rules"))
-    × (printed_allowed Name ≡ codes "a text of 1 to " ++ (decimal CERTIFICATE_NAME_LIMIT ++ codes " bytes"))
+    × (printed_allowed (Value Name) ≡ codes "a text of 1 to " ++ (decimal CERTIFICATE_NAME_LIMIT ++ codes " bytes"))
 unfolding digits
 the_limits = (refl, refl, refl, refl)

@@ -9,17 +9,15 @@ use console::Detail;
 use door_file::{DoorFault, Key, MOST_BYTES, Place, Problem, Shape};
 use std::alloc::Global;
 use std::fmt;
-use table_check::{Found, Sheet, SurveyFault, Wanted};
+use table_check::{Allowed, Found, SecondLine, Sheet, Standing, Wanted};
 
 /// What is allowed where a fault of a door is. It prints as it is told.
 #[derive(Clone, Copy, PartialEq, Eq)]
-pub(crate) enum Allowed {
+pub(crate) enum DoorAllowed {
+    /// A value that a key of a fare table may have too.
+    Value(Allowed),
     /// The list of rules.
     Rules,
-    /// A rule.
-    Rule,
-    /// A name.
-    Name,
     /// A name that no earlier rule has.
     OtherName,
     /// Gate numbers and ranges.
@@ -28,40 +26,23 @@ pub(crate) enum Allowed {
     Kinds,
     /// Each kind once.
     Once,
-    /// A whole number from the first to the second.
-    Whole(u32, u32),
     /// One of the keys of a rule.
     RuleKey,
     /// The key of the file.
     FileKey,
 }
 
-/// What is at a place of a door.
+/// What is at a place of a door, in the rule of a number. It prints with the number before it.
 #[derive(Clone, Copy)]
-enum Standing<'a> {
-    /// This value at a key.
-    Value(&'static str, Found<'a>),
-    /// This value in place of a rule.
-    Item(Found<'a>),
-    /// Nothing at a key.
-    Nothing(&'static str),
-    /// A key that no door has.
-    Unknown(&'a str),
-}
-
-/// Where a fault of a door is, what is there, and what is allowed. It prints as the second line of
-/// the fault, without the file's name.
-#[derive(Clone, Copy)]
-struct Spot<'a> {
-    /// The line, from 1, where it is known.
-    line: Option<usize>,
+struct InRule<'a> {
     /// The number of the rule, from 1, and 0 for the file itself.
     rule: usize,
     /// What is there.
     standing: Standing<'a>,
-    /// What is allowed.
-    allowed: Allowed,
 }
+
+/// Where a fault of a door is, what is there, and what is allowed.
+type Spot<'a> = SecondLine<InRule<'a>, DoorAllowed>;
 
 /// A file that has more bytes than a door may have. It prints as that.
 struct Long;
@@ -74,8 +55,7 @@ pub(crate) fn door_detail(alloc: Global, path: &str, bytes: &[u8], fault: &DoorF
     }
     match Sheet::read(alloc, bytes) {
         Ok(sheet) => sheet_detail(alloc, path, &sheet, fault),
-        Err(SurveyFault::Misread(misread)) => Detail::of(alloc, path, &misread),
-        Err(SurveyFault::Memory) => Detail::of_file(alloc, path),
+        Err(fault) => fault.detail(alloc, path),
     }
 }
 
@@ -98,24 +78,24 @@ fn sheet_detail(alloc: Global, path: &str, sheet: &Sheet<'_>, fault: &DoorFault)
 fn spot_at<'a>(sheet: &'a Sheet<'_>, place: Place, problem: Problem) -> Spot<'a> {
     let Place { rule, key } = place;
     let wanted = wanted_at(rule, key);
-    Spot {
+    let standing = standing_at(sheet, wanted, place, problem);
+    SecondLine {
         line: line_at(sheet, wanted, rule),
-        rule,
-        standing: standing_at(sheet, wanted, place, problem),
+        standing: InRule { rule, standing },
         allowed: allowed_at(rule, key, problem),
     }
 }
 
 /// The spot of a key that no door has: that of its rule.
 fn unknown_at<'a>(sheet: &'a Sheet<'_>, name: &'a str, rule: usize) -> Spot<'a> {
-    Spot {
+    let standing = Standing::Unknown(name);
+    SecondLine {
         line: rule_line(sheet, rule),
-        rule,
-        standing: Standing::Unknown(name),
+        standing: InRule { rule, standing },
         allowed: if rule == 0 {
-            Allowed::FileKey
+            DoorAllowed::FileKey
         } else {
-            Allowed::RuleKey
+            DoorAllowed::RuleKey
         },
     }
 }
@@ -156,81 +136,67 @@ fn standing_at<'a>(
 ) -> Standing<'a> {
     let Place { rule, key } = place;
     match sheet.value_of(wanted) {
-        Some(value) if key == Key::Rule && rule > 0 => Standing::Item(Found { value }),
+        Some(value) if key == Key::Rule && rule > 0 => Standing::Value(Found { value }),
         Some(value) => {
             let value = item_at_fault(key, problem, value);
-            Standing::Value(key.text(), Found { value })
+            Standing::Named(key.text(), Found { value })
         }
         None => Standing::Nothing(key.text()),
     }
 }
 
 /// What is allowed at a key of the rule of this number, from 1, or of the file, which has 0.
-fn allowed_at(rule: usize, key: Key, problem: Problem) -> Allowed
+fn allowed_at(rule: usize, key: Key, problem: Problem) -> DoorAllowed
     ensures { result ≡ allowed_by rule problem (shape_of key) }
 {
     match (key.shape(), problem) {
         (Shape::Rules, _) => {
             if rule == 0 {
-                Allowed::Rules
+                DoorAllowed::Rules
             } else {
-                Allowed::Rule
+                DoorAllowed::Value(Allowed::Table)
             }
         }
-        (Shape::Name, Problem::Twice) => Allowed::OtherName,
-        (Shape::Name, _) => Allowed::Name,
-        (Shape::Gates, _) => Allowed::Gates,
-        (Shape::Kinds, Problem::Twice) => Allowed::Once,
-        (Shape::Kinds, _) => Allowed::Kinds,
-        (Shape::Whole(low, high), _) => Allowed::Whole(low, high),
+        (Shape::Name, Problem::Twice) => DoorAllowed::OtherName,
+        (Shape::Name, _) => DoorAllowed::Value(Allowed::Name),
+        (Shape::Gates, _) => DoorAllowed::Gates,
+        (Shape::Kinds, Problem::Twice) => DoorAllowed::Once,
+        (Shape::Kinds, _) => DoorAllowed::Kinds,
+        (Shape::Whole(low, high), _) => DoorAllowed::Value(Allowed::Whole(low, high)),
     }
 }
 
-impl fmt::Display for Allowed {
+impl fmt::Display for DoorAllowed {
     ghost output = { λ allowed. Some (printed_allowed allowed) };
 
     fn fmt<W: fmt::Write>(&self, f: &mut fmt::Formatter<W>) -> fmt::Result {
         match *self {
-            Allowed::Rules => f.write_str("a list of 1 to 1000 rules"),
-            Allowed::Rule => f.write_str("a table"),
-            Allowed::Name => f.write_str("a text of 1 to 64 bytes"),
-            Allowed::OtherName => f.write_str("a name that no earlier rule has"),
-            Allowed::Gates => f.write_str(
+            DoorAllowed::Value(allowed) => write!(f, "{allowed}"),
+            DoorAllowed::Rules => f.write_str("a list of 1 to 1000 rules"),
+            DoorAllowed::OtherName => f.write_str("a name that no earlier rule has"),
+            DoorAllowed::Gates => f.write_str(
                 "gate numbers from 1 to 65535 or ranges as [100, 120]; enquiries alone need none",
             ),
-            Allowed::Kinds => f.write_str(
+            DoorAllowed::Kinds => f.write_str(
                 "one or more of \"in\", \"out\", \"top-up\", \"issue\", \"revise\" and \"enquiry\"",
             ),
-            Allowed::Once => f.write_str("each kind once"),
-            Allowed::Whole(low, high) => write!(f, "a whole number from {low} to {high}"),
-            Allowed::RuleKey => f.write_str(
+            DoorAllowed::Once => f.write_str("each kind once"),
+            DoorAllowed::RuleKey => f.write_str(
                 "the keys of a rule are name, gates, kinds, ahead, rate, burst, reserved and \
                  connections",
             ),
-            Allowed::FileKey => f.write_str("the file has the list rule alone"),
+            DoorAllowed::FileKey => f.write_str("the file has the list rule alone"),
         }
     }
 }
 
-impl fmt::Display for Spot<'_> {
+impl fmt::Display for InRule<'_> {
     fn fmt<W: fmt::Write>(&self, f: &mut fmt::Formatter<W>) -> fmt::Result {
-        let allowed = self.allowed;
-        if let Some(line) = self.line {
-            write!(f, "line {line}: ")?;
-        }
-        if self.rule > 0 {
-            let rule = self.rule;
+        let (rule, standing) = (self.rule, self.standing);
+        if rule > 0 {
             write!(f, "rule {rule}: ")?;
         }
-        match self.standing {
-            Standing::Value(key, found) => write!(f, "{key}: {found}; {allowed}"),
-            Standing::Item(found) => write!(f, "{found}; {allowed}"),
-            Standing::Nothing(key) => write!(f, "no {key}; {allowed}"),
-            Standing::Unknown(name) => {
-                let name = name.escape_debug();
-                write!(f, "unknown key {name}; {allowed}")
-            }
-        }
+        write!(f, "{standing}")
     }
 }
 

@@ -15,10 +15,7 @@ mod station_line;
 mod system;
 
 pub use disks::{JournalFiles, SystemDisks};
-pub use making::{Prepared, Unprepared, prepare};
-pub use migrate::{explained_migrate, migrate_journal};
-pub use refusal::{door_fault, journal_fault, journal_refusal, listen_fault, missing_refusal};
+pub use migrate::explained_migrate;
 pub use server::serve_gates;
 pub use standard::standard_files;
-pub use standby::{JournalLock, refused_journal, take_journal};
 pub use system::System;

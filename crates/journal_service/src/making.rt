@@ -14,7 +14,7 @@ use tap_journal::{Journal, JournalFault};
 
 /// A disk that is ready to be opened.
 #[derive(Drop)]
-pub struct Prepared<D> {
+pub(crate) struct Prepared<D> {
     /// The disk.
     pub disk: D,
     /// Whether a journal was made on it now.
@@ -23,7 +23,7 @@ pub struct Prepared<D> {
 
 /// Why a disk isn't ready.
 #[derive(Drop)]
-pub enum Unprepared<D> {
+pub(crate) enum Unprepared<D> {
     /// It can't be looked at.
     Unseen(CommandFault, D),
     /// It was empty, and the making of a journal failed on it. It may hold some bytes that are no
@@ -37,7 +37,7 @@ pub enum Unprepared<D> {
 ///
 /// A disk that holds something is only looked at. A fault is `Device`, or `BadLimit` for numbers
 /// that are out of their limits.
-pub fn prepare<D: Disk>(
+pub(crate) fn prepare<D: Disk>(
     disk: D,
     digest: &Digest,
     asked: &Serve<'_>,

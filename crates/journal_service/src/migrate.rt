@@ -32,7 +32,7 @@ use text_io::RunFault;
 ///
 /// The table is looked at first, then the old file, and only then the new file is made. The old
 /// file is opened for reading alone. Open slots behind its end are told of.
-pub fn migrate_journal<
+pub(crate) fn migrate_journal<
     R: AllocGlobal + Files + Eprint,
     F: WholeFiles,
     D: Disk,

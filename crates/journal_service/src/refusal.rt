@@ -18,7 +18,7 @@ use tap_disk::OpenFault;
 
 /// The fault of an address that isn't listened on, by the error of the listening. One without a
 /// number is of the address's text.
-pub fn listen_fault(alloc: Global, address: &str, error: &io::Error) -> CommandFault
+pub(crate) fn listen_fault(alloc: Global, address: &str, error: &io::Error) -> CommandFault
     ensures { (detail : Detail) × (result ≡ CommandFault.Listen detail) }
 {
     let refusal = match error.raw_os_error() {
@@ -29,7 +29,7 @@ pub fn listen_fault(alloc: Global, address: &str, error: &io::Error) -> CommandF
 }
 
 /// The fault of a door that isn't had.
-pub fn door_fault(fault: NoDoor) -> CommandFault
+pub(crate) fn door_fault(fault: NoDoor) -> CommandFault
     ensures { told_fault result ≡ told_door fault }
 {
     match fault {
@@ -39,7 +39,11 @@ pub fn door_fault(fault: NoDoor) -> CommandFault
 }
 
 /// The fault of a journal's file that isn't had, by what its opening found.
-pub fn journal_fault<R: AllocGlobal + Files>(rt: &R, path: &str, fault: OpenFault) -> CommandFault
+pub(crate) fn journal_fault<R: AllocGlobal + Files>(
+    rt: &R,
+    path: &str,
+    fault: OpenFault,
+) -> CommandFault
     ensures { (detail : Detail) × (result ≡ CommandFault.Trial (FileFault detail)) }
 {
     refused_journal(rt.alloc(), path, journal_refusal(rt, path, fault))
@@ -47,7 +51,7 @@ pub fn journal_fault<R: AllocGlobal + Files>(rt: &R, path: &str, fault: OpenFaul
 
 /// Why a journal's file isn't had, by what its opening found. An error without a number is for want
 /// of memory.
-pub fn journal_refusal<R: Files>(rt: &R, path: &str, fault: OpenFault) -> Refusal {
+pub(crate) fn journal_refusal<R: Files>(rt: &R, path: &str, fault: OpenFault) -> Refusal {
     match fault {
         OpenFault::System(error) if error.raw_os_error().is_some() => {
             open_refusal(rt, path, &error)
@@ -59,7 +63,7 @@ pub fn journal_refusal<R: Files>(rt: &R, path: &str, fault: OpenFault) -> Refusa
 }
 
 /// Why a journal's file isn't there to be opened, which is not made.
-pub fn missing_refusal<R: Files<File = File>>(rt: &R, path: &str) -> Option<Refusal> {
+pub(crate) fn missing_refusal<R: Files<File = File>>(rt: &R, path: &str) -> Option<Refusal> {
     let opened = OpenOptions::new().read(true).write(true).open(rt, path);
     match opened {
         Ok(_) => None,

@@ -10,7 +10,7 @@ use std::alloc::Global;
 use tap_disk::Disk;
 
 /// The file of a journal, which one server at a time can have.
-pub trait JournalLock<D: Disk> {
+pub(crate) trait JournalLock<D: Disk> {
     /// Takes the file, and its lock with it, or says why it isn't had: `Locked` where another
     /// server or run has the lock.
     fn take(&mut self) -> Result<D, Refusal>;
@@ -23,7 +23,7 @@ pub trait JournalLock<D: Disk> {
 /// refused for that; any other is refused at once.
 ///
 /// A lock that was let go while it was looked at is one to try again.
-pub fn take_journal<D: Disk, J: JournalLock<D>>(
+pub(crate) fn take_journal<D: Disk, J: JournalLock<D>>(
     file: &mut J,
     is_standby: bool,
 ) -> Result<D, Refusal>
@@ -51,7 +51,7 @@ fn is_awaited(is_standby: bool, refusal: Refusal) -> bool
 }
 
 /// The fault of a journal's file that isn't had, for this reason.
-pub fn refused_journal(alloc: Global, path: &str, refusal: Refusal) -> CommandFault
+pub(crate) fn refused_journal(alloc: Global, path: &str, refusal: Refusal) -> CommandFault
     ensures { (detail : Detail) × (result ≡ CommandFault.Trial (TrialFault.File detail)) }
 {
     CommandFault::Trial(TrialFault::File(Detail::of(alloc, path, &refusal)))

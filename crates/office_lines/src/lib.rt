@@ -39,7 +39,6 @@ pub use post::{Post, Service, serve_all};
 pub use posts::{new_post, seats_and_desks, tallies_of};
 pub use reason::Reason;
 pub use report::{write_opened, write_report};
-pub use rounds::Rounds;
 pub use serving::serve_office;
 pub use tally::Tally;
 pub use watched_door::WatchedDoor;

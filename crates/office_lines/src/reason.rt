@@ -1,8 +1,8 @@
 //! Why a server's door kept something out.
 
 use door_clerk::DoorRefusal;
-use std::fmt::Display;
 use std::fmt;
+use std::fmt::Display;
 
 /// Why a request, or a whole connection, was kept out.
 #[derive(Clone, Copy, Debug, PartialEq, Eq)]

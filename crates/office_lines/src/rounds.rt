@@ -12,7 +12,7 @@ use tap_office::{Named, Office};
 
 /// The clocks of a server and the history of its office.
 #[derive(Drop)]
-pub struct Rounds<'a, N: Named, D: Disk, R> {
+pub(crate) struct Rounds<'a, N: Named, D: Disk, R> {
     /// What the clocks are read by.
     pub rt: &'a R,
     /// The office.

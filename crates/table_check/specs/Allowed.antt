@@ -16,7 +16,7 @@ use Rattle.table_check.specs.declared.standing.Allowed.TheVariants.{Date}
 
 -- what a key of this shape may hold
 abbrev pub allowed_by : Shape → Allowed
-allowed_by (shape.Whole highest) = Whole highest
+allowed_by (shape.Whole highest) = Whole 1 highest
 allowed_by shape.Truth = Truth
 allowed_by shape.Text = Text
 allowed_by shape.Name = Name
@@ -31,9 +31,11 @@ list_text (Some list) = text_of list
 
 -- what may stand there, in words
 abbrev pub printed_allowed : Allowed → List ℕ
-printed_allowed (Whole highest) = codes "a whole number from 1 to " ++ decimal highest
-printed_allowed (Ordered highest order) =
-    codes "a whole number from 1 to " ++ (decimal highest ++ (codes ", " ++ order.now))
+printed_allowed (Whole low high) =
+    codes "a whole number from " ++ (decimal low ++ (codes " to " ++ decimal high))
+printed_allowed (Ordered low high order) =
+    codes "a whole number from "
+    ++ (decimal low ++ (codes " to " ++ (decimal high ++ (codes ", " ++ order.now))))
 printed_allowed Truth = codes "true or false"
 printed_allowed Text = codes "a text"
 printed_allowed Name = codes "a text of 1 to 64 bytes"

@@ -6,6 +6,7 @@ ghost use Rattle.table_check.specs.declared.document.SurveyFault.TheVariants.{Me
 ghost use Rattle.table_check.specs.Survey.{document_in, HasNoSurvey};
 
 use crate::misread::Misread;
+use console::Detail;
 use std::alloc::{AllocError, Global};
 use std::str;
 use thiserror::Error;
@@ -23,6 +24,17 @@ pub enum SurveyFault {
     /// The bytes are no TOML document.
     #[error("{0}")]
     Misread(Misread),
+}
+
+impl SurveyFault {
+    /// The second line of a fault of the file at this path, which has no survey: the place at which
+    /// its text stops being a document. Without memory it names the file alone.
+    pub fn detail(&self, alloc: Global, path: &str) -> Detail {
+        match self {
+            SurveyFault::Misread(misread) => Detail::of(alloc, path, misread),
+            SurveyFault::Memory => Detail::of_file(alloc, path),
+        }
+    }
 }
 
 impl From<AllocError> for SurveyFault {

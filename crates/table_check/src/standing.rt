@@ -6,6 +6,7 @@ ghost use Rattle.table_check.specs.Allowed.{allowed_by, printed_allowed, list_te
 
 use crate::found::Found;
 use crate::places::Wanted;
+use crate::second_line::{SecondLine, Standing};
 use crate::sheet::Sheet;
 use fare_table::{Key, Shape, TableFault};
 use std::fmt;
@@ -13,10 +14,10 @@ use std::fmt;
 /// What may stand where a fault of a table is. It prints as it is told.
 #[derive(Clone, Copy, PartialEq, Eq)]
 pub enum Allowed {
-    /// A whole number from 1 to this one.
-    Whole(u32),
+    /// A whole number from the first to the second.
+    Whole(u32, u32),
     /// The same, in this order with another key of its row.
-    Ordered(u32, &'static str),
+    Ordered(u32, u32, &'static str),
     /// A truth value.
     Truth,
     /// A text.
@@ -56,30 +57,12 @@ struct Entry {
     allowed: Allowed,
 }
 
-/// What stands at a place.
-#[derive(Clone, Copy)]
-pub enum Standing<'a> {
-    /// This value.
-    Value(Found<'a>),
-    /// Nothing at this key.
-    Nothing(&'static str),
-}
-
-/// Where a fault of a table stands, what stands there, and what may. It prints as the line behind
-/// the fault's says it.
-#[derive(Clone, Copy)]
-pub struct Place<'a> {
-    /// The line, from 1, where it is known.
-    pub line: Option<usize>,
-    /// What stands there.
-    pub standing: Standing<'a>,
-    /// What may.
-    pub allowed: Allowed,
-}
+/// The place of a fault in a fare table.
+type TablePlace<'a> = SecondLine<Standing<'a>, Allowed>;
 
 /// Where this fault of a table stands. Of want of memory, and of a text that is no table, there is
 /// no place.
-pub fn place_of<'a>(sheet: &'a Sheet<'_>, fault: TableFault) -> Option<Place<'a>> {
+pub fn place_of<'a>(sheet: &'a Sheet<'_>, fault: TableFault) -> Option<TablePlace<'a>> {
     match fault {
         TableFault::Memory => None,
         TableFault::NotToml => None,
@@ -106,13 +89,13 @@ pub fn place_of<'a>(sheet: &'a Sheet<'_>, fault: TableFault) -> Option<Place<'a>
 }
 
 /// The place of a key that is absent: that of the row that lacks it, or none.
-fn absent<'a>(sheet: &'a Sheet<'_>, key: Key, row: usize) -> Place<'a> {
+fn absent<'a>(sheet: &'a Sheet<'_>, key: Key, row: usize) -> TablePlace<'a> {
     let entry = entry_of(key);
     let line = match row {
         0 => None,
         row => sheet.line_of(Wanted::Row(entry.list, row)),
     };
-    Place {
+    SecondLine {
         line,
         standing: Standing::Nothing(entry.text),
         allowed: entry.allowed,
@@ -120,12 +103,12 @@ fn absent<'a>(sheet: &'a Sheet<'_>, key: Key, row: usize) -> Place<'a> {
 }
 
 /// The place of a key or a row, and what stands there.
-fn place_at<'a>(sheet: &'a Sheet<'_>, wanted: Wanted, allowed: Allowed) -> Place<'a> {
+fn place_at<'a>(sheet: &'a Sheet<'_>, wanted: Wanted, allowed: Allowed) -> TablePlace<'a> {
     let standing = match sheet.value_of(wanted) {
         Some(value) => Standing::Value(Found { value }),
         None => Standing::Nothing("value"),
     };
-    Place {
+    SecondLine {
         line: sheet.line_of(wanted),
         standing,
         allowed,
@@ -152,7 +135,7 @@ fn typed(entry: &Entry, row: usize) -> Allowed {
 }
 
 /// The place of a row that names what an earlier one names: that of its first key.
-fn repeated<'a>(sheet: &'a Sheet<'_>, list: Key, row: usize) -> Option<Place<'a>> {
+fn repeated<'a>(sheet: &'a Sheet<'_>, list: Key, row: usize) -> Option<TablePlace<'a>> {
     let key = list.keys().first()?;
     let earlier = sheet.row_before(list, row)?;
     Some(place_at(
@@ -163,8 +146,8 @@ fn repeated<'a>(sheet: &'a Sheet<'_>, list: Key, row: usize) -> Option<Place<'a>
 }
 
 /// No place, for a single fare that isn't there.
-fn no_single<'a>(low: u8, high: u8) -> Place<'a> {
-    Place {
+fn no_single<'a>(low: u8, high: u8) -> TablePlace<'a> {
+    SecondLine {
         line: None,
         standing: Standing::Nothing(Key::Single.text()),
         allowed: Allowed::Single(low, high),
@@ -172,7 +155,7 @@ fn no_single<'a>(low: u8, high: u8) -> Place<'a> {
 }
 
 /// The place of the first price above its maximum.
-fn above<'a>(sheet: &'a Sheet<'_>) -> Option<Place<'a>> {
+fn above<'a>(sheet: &'a Sheet<'_>) -> Option<TablePlace<'a>> {
     let above = sheet.above()?;
     Some(place_at(
         sheet,
@@ -193,7 +176,7 @@ fn ordered(key: Key, allowed: Allowed) -> Allowed {
         _ => return allowed,
     };
     match allowed {
-        Allowed::Whole(highest) => Allowed::Ordered(highest, order),
+        Allowed::Whole(low, high) => Allowed::Ordered(low, high, order),
         allowed => allowed,
     }
 }
@@ -226,7 +209,7 @@ fn allowed_at(shape: Shape) -> Allowed
     ensures { result ≡ allowed_by shape }
 {
     match shape {
-        Shape::Whole(highest) => Allowed::Whole(highest),
+        Shape::Whole(highest) => Allowed::Whole(1, highest),
         Shape::Truth => Allowed::Truth,
         Shape::Text => Allowed::Text,
         Shape::Name => Allowed::Name,
@@ -241,9 +224,9 @@ impl fmt::Display for Allowed {
 
     fn fmt<W: fmt::Write>(&self, f: &mut fmt::Formatter<W>) -> fmt::Result {
         match *self {
-            Allowed::Whole(highest) => write!(f, "a whole number from 1 to {highest}"),
-            Allowed::Ordered(highest, order) => {
-                write!(f, "a whole number from 1 to {highest}, {order}")
+            Allowed::Whole(low, high) => write!(f, "a whole number from {low} to {high}"),
+            Allowed::Ordered(low, high, order) => {
+                write!(f, "a whole number from {low} to {high}, {order}")
             }
             Allowed::Truth => f.write_str("true or false"),
             Allowed::Text => f.write_str("a text"),
@@ -258,19 +241,6 @@ impl fmt::Display for Allowed {
             Allowed::AtMost(key, most) => write!(f, "at most {key}, {most}"),
             Allowed::Rule => f.write_str("a POSIX TZ rule, as \"GMT0BST,M3.5.0/1,M10.5.0\""),
             Allowed::Date => f.write_str("a date of the calendar, as \"2025-12-25\""),
-        }
-    }
-}
-
-impl<'a> fmt::Display for Place<'a> {
-    fn fmt<W: fmt::Write>(&self, f: &mut fmt::Formatter<W>) -> fmt::Result {
-        let allowed = self.allowed;
-        if let Some(line) = self.line {
-            write!(f, "line {line}: ")?;
-        }
-        match self.standing {
-            Standing::Value(found) => write!(f, "{found}; {allowed}"),
-            Standing::Nothing(key) => write!(f, "no {key}; {allowed}"),
         }
     }
 }

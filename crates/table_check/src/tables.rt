@@ -11,7 +11,6 @@ ghost use Rattle.table_check.specs.Tables.{IsTaken, IsSupplyFault};
 ghost use Rattle.table_check.specs.Tables.{IsTableFault, IsTableInFault, IsFirstFault};
 ghost use Rattle.table_check.specs.Tables.{IsNotTaken, IsFurtherFault, AreRefused};
 
-use crate::document::SurveyFault;
 use crate::sheet::Sheet;
 use crate::standing::place_of;
 use console::{Detail, TrialFault, WholeFiles};
@@ -158,8 +157,7 @@ pub(crate) fn table_of(alloc: Global, path: &str, bytes: &[u8]) -> Result<Fares,
 fn table_detail(alloc: Global, path: &str, bytes: &[u8], fault: TableFault) -> Detail {
     match Sheet::read(alloc, bytes) {
         Ok(sheet) => sheet_detail(alloc, path, &sheet, fault),
-        Err(SurveyFault::Misread(misread)) => Detail::of(alloc, path, &misread),
-        Err(SurveyFault::Memory) => Detail::of_file(alloc, path),
+        Err(fault) => fault.detail(alloc, path),
     }
 }
 

@@ -1,11 +1,11 @@
 //! Requests at a door, one after the other.
 
+use super::fakes::{HOLDING, REPLY};
+use super::*;
 use door_clerk::DoorRefusal;
 use gate_session::{Answer, Clerk, FaultCode};
 use std::sync::Wait;
 use std::sync::atomic::Ordering;
-use super::*;
-use super::fakes::{HOLDING, REPLY};
 
 /// A touch that comes to a full bucket, and why it is kept out, if it is.
 #[derive(Clone, Copy, Debug)]

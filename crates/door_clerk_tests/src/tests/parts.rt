@@ -1,8 +1,8 @@
 //! The parts of a rule, and a bucket.
 
+use super::*;
 use door_clerk::{DoorRefusal, TICKS_PER_SECOND};
 use gate_session::Request;
-use super::*;
 
 #[test]
 fn a_range_has_both_its_ends(rt: HostRuntime) {
@@ -38,7 +38,11 @@ fn each_kind_is_allowed_by_its_own_name(rt: HostRuntime) {
         moment: 0,
     };
     assert_same(&rt, PASSAGES.allow_act(&top_up), false);
-    assert_same(&rt, rule.check_name(&touch(40, top_up)), Err(DoorRefusal::Kind));
+    assert_same(
+        &rt,
+        rule.check_name(&touch(40, top_up)),
+        Err(DoorRefusal::Kind),
+    );
     assert_same(&rt, rule.check_name(&entry(39, 0)), Err(DoorRefusal::Gate));
     assert_same(&rt, rule.check_name(&entry(40, 0)), Ok(()));
 }

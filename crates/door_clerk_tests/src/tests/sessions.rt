@@ -1,8 +1,8 @@
 //! A session through a door.
 
+use super::*;
 use door_clerk::{DoorRefusal, serve_at_door};
 use gate_session::{End, Served};
-use super::*;
 use test_streams::{Pieces, Taker};
 
 /// A touch in of gate 7, a top-up of gate 7, a touch in of gate 21, and an enquiry.

@@ -1,9 +1,9 @@
 //! A door of two rules, and what its rules say.
+use super::assert_same_at;
 use door_clerk::{GateRange, Kinds, Rate};
 use door_file::{Door, NamedRule};
 use std::process::Abort;
 use std::test::Fail;
-use super::assert_same_at;
 
 /// A door of two rules.
 pub(super) const DOOR: &str = "# A door.

@@ -1,8 +1,8 @@
 //! What rules say.
+use super::doors::{DOOR, NONE, Said, assert_door, assert_rule};
 use door_clerk::{GateRange, Kinds, Rate};
 use door_file::Door;
 use std::test::Fail;
-use super::doors::{DOOR, NONE, Said, assert_door, assert_rule};
 
 #[test]
 fn rules_have_the_values_of_their_keys(rt: HostRuntime) -> Result<(), Fail> {

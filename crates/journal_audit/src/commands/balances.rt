@@ -30,7 +30,7 @@ use table_check::tables_in;
 /// isn't locked: a server may go on with it. It is read to its end before anything is written, and
 /// read again where it changed meanwhile and looks damaged. More open slots behind the journal's
 /// end than crashes leave are noted on standard error before the sums.
-pub fn tell_balances<R: AllocGlobal + Eprint, F: WholeFiles, W: Write>(
+pub(crate) fn tell_balances<R: AllocGlobal + Eprint, F: WholeFiles, W: Write>(
     rt: &R,
     hashing: NameHashing,
     files: &F,

@@ -34,7 +34,7 @@ use table_check::tables_in;
 /// The tables are looked at first, and then the journal's file. It is opened for reading alone, and
 /// isn't locked: a server or a gate may go on with it. It is read to its end before anything is
 /// written, and read again where it changed meanwhile and looks damaged.
-pub fn verify_journal<R: AllocGlobal + Eprint, F: WholeFiles, W: Write>(
+pub(crate) fn verify_journal<R: AllocGlobal + Eprint, F: WholeFiles, W: Write>(
     rt: &R,
     hashing: NameHashing,
     files: &F,
