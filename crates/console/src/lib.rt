@@ -12,4 +12,4 @@ pub use detail::Detail;
 pub use fault::{TrialFault, tell_fault};
 pub use files::{LimitedFiles, SystemFiles, TURNS, WholeFiles};
 pub use output::Output;
-pub use refusal::{Refusal, open_refusal};
+pub use refusal::{SystemRefusal, open_refusal};

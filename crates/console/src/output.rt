@@ -2,7 +2,7 @@
 
 ghost use Rattle.std.specs.Prelude.{◌≡◌};
 
-use crate::refusal::Refusal;
+use crate::refusal::SystemRefusal;
 use std::io;
 use std::io::Write;
 
@@ -10,7 +10,7 @@ use std::io::Write;
 #[derive(Drop)]
 pub struct Output<W> {
     writer: W,
-    refusal: Option<Refusal>,
+    refusal: Option<SystemRefusal>,
 }
 
 impl<W: Write + Drop> Output<W> {
@@ -25,7 +25,7 @@ impl<W: Write + Drop> Output<W> {
     }
 
     /// Why it refused the last write that it did, where it refused one.
-    pub fn refusal(&self) -> Option<Refusal> {
+    pub fn refusal(&self) -> Option<SystemRefusal> {
         self.refusal
     }
 }
@@ -36,7 +36,7 @@ impl<W: Write + Drop> Write for Output<W> {
     fn write(&mut self, buf: &[u8]) -> io::Result<usize> {
         let taken = self.writer.write(buf);
         if let Err(error) = &taken {
-            self.refusal = Some(Refusal::of(error));
+            self.refusal = Some(SystemRefusal::of(error));
         }
         taken
     }
@@ -44,7 +44,7 @@ impl<W: Write + Drop> Write for Output<W> {
     fn flush(&mut self) -> io::Result<()> {
         let flushed = self.writer.flush();
         if let Err(error) = &flushed {
-            self.refusal = Some(Refusal::of(error));
+            self.refusal = Some(SystemRefusal::of(error));
         }
         flushed
     }

@@ -15,7 +15,7 @@ const ENFILE: i32 = 23;
 
 /// Why the system gives no file, or doesn't listen on an address. It prints as what is told of it.
 #[derive(Clone, Copy, Debug, PartialEq, Eq, Error)]
-pub enum Refusal {
+pub enum SystemRefusal {
     /// There is no such file (ENOENT).
     #[error("no such file")]
     NoFile,
@@ -58,7 +58,7 @@ pub enum Refusal {
     /// It is no address with a port.
     #[error("not an address and a port")]
     NoAddress,
-    /// It was refused, and a moment later no more.
+    /// The path was given up, or to another file, while it was opened; or memory ran out.
     #[error("refused for a moment, or for want of memory")]
     Passed,
     /// Anything else, by the system's number, and by 0 where there is none.
@@ -66,32 +66,32 @@ pub enum Refusal {
     Other(i32),
 }
 
-impl Refusal {
+impl SystemRefusal {
     /// What an error of the system says.
-    pub fn of(error: &io::Error) -> Refusal
+    pub fn of(error: &io::Error) -> SystemRefusal
         ensures { result ≡ refusal_of (raw_os_error error.now) }
     {
         match error.raw_os_error() {
-            Some(libc::ENOENT) => Refusal::NoFile,
-            Some(libc::ENOTDIR) => Refusal::NoFolder,
-            Some(libc::EISDIR) => Refusal::Folder,
-            Some(libc::EPERM | libc::EACCES) => Refusal::Permission,
-            Some(libc::EROFS) => Refusal::ReadOnly,
-            Some(libc::EMFILE | ENFILE) => Refusal::Descriptors,
-            Some(libc::ENOMEM) => Refusal::Memory,
-            Some(libc::ENOSPC) => Refusal::Room,
-            Some(libc::EADDRINUSE) => Refusal::InUse,
-            Some(libc::EADDRNOTAVAIL) => Refusal::NotHere,
-            Some(number) => Refusal::Other(number),
-            None => Refusal::Other(0),
+            Some(libc::ENOENT) => SystemRefusal::NoFile,
+            Some(libc::ENOTDIR) => SystemRefusal::NoFolder,
+            Some(libc::EISDIR) => SystemRefusal::Folder,
+            Some(libc::EPERM | libc::EACCES) => SystemRefusal::Permission,
+            Some(libc::EROFS) => SystemRefusal::ReadOnly,
+            Some(libc::EMFILE | ENFILE) => SystemRefusal::Descriptors,
+            Some(libc::ENOMEM) => SystemRefusal::Memory,
+            Some(libc::ENOSPC) => SystemRefusal::Room,
+            Some(libc::EADDRINUSE) => SystemRefusal::InUse,
+            Some(libc::EADDRNOTAVAIL) => SystemRefusal::NotHere,
+            Some(number) => SystemRefusal::Other(number),
+            None => SystemRefusal::Other(0),
         }
     }
 }
 
 /// Why the file at this path isn't opened, by the error of the opening.
-pub fn open_refusal<R: Files>(rt: &R, path: &str, error: &io::Error) -> Refusal {
-    match Refusal::of(error) {
-        Refusal::NoFile if !has_folder(rt, path) => Refusal::NoFolder,
+pub fn open_refusal<R: Files>(rt: &R, path: &str, error: &io::Error) -> SystemRefusal {
+    match SystemRefusal::of(error) {
+        SystemRefusal::NoFile if !has_folder(rt, path) => SystemRefusal::NoFolder,
         refusal => refusal,
     }
 }
@@ -105,11 +105,11 @@ fn has_folder<R: Files>(rt: &R, path: &str) -> bool {
 }
 
 /// Why a file that was opened isn't read to its end: it may be no file of bytes.
-pub(crate) fn read_refusal<F: OpenFile>(file: &F) -> Refusal {
+pub(crate) fn read_refusal<F: OpenFile>(file: &F) -> SystemRefusal {
     match file.metadata() {
-        Ok(metadata) if metadata.is_file() => Refusal::Unread,
-        Ok(metadata) if metadata.is_dir() => Refusal::Folder,
-        Ok(_) => Refusal::Device,
-        Err(error) => Refusal::of(&error),
+        Ok(metadata) if metadata.is_file() => SystemRefusal::Unread,
+        Ok(metadata) if metadata.is_dir() => SystemRefusal::Folder,
+        Ok(_) => SystemRefusal::Device,
+        Err(error) => SystemRefusal::of(&error),
     }
 }

@@ -3,8 +3,8 @@
 use Rattle.std.specs.Prelude.{◌≡◌, ℤ, pos, Option, Some}
 use Rattle.text_io.specs.declared.fault.RunFault.TheVariants as runs
 use Rattle.console.specs.declared.fault.TrialFault.TheVariants.{Run}
-use Rattle.console.specs.declared.refusal.Refusal.{Refusal}
-use Rattle.console.specs.declared.refusal.Refusal.TheVariants.{Other}
+use Rattle.console.specs.declared.refusal.SystemRefusal.{SystemRefusal}
+use Rattle.console.specs.declared.refusal.SystemRefusal.TheVariants.{Other}
 use Rattle.journal_audit.specs.declared.commands.fault.CommandFault.{CommandFault}
 use Rattle.journal_audit.specs.declared.commands.fault.CommandFault.TheVariants.{Trial}
 
@@ -13,5 +13,5 @@ abbrev pub pipe_error : ℤ
 pipe_error = pos 32
 
 -- the run ended at a failed write, which the system refused by that error
-abbrev pub IsPipeGone : Option Refusal → CommandFault → Type 0
+abbrev pub IsPipeGone : Option SystemRefusal → CommandFault → Type 0
 IsPipeGone refusal fault = (refusal ≡ Some (Other pipe_error)) × (fault ≡ Trial (Run runs.Write))

@@ -6,7 +6,7 @@ use crate::making::{Unprepared, prepare};
 use crate::refusal::{journal_refusal, missing_refusal};
 use crate::standby::{JournalLock, refused_journal, take_journal};
 use command_line::Serve;
-use console::{Detail, Refusal};
+use console::{Detail, SystemRefusal};
 use fare_table::Digest;
 use journal_audit::CommandFault;
 use std::alloc::Global;
@@ -35,7 +35,7 @@ struct JournalPath<'a, R> {
 
 impl<R: Files<File = File>> JournalPath<'_, R> {
     /// Why the file isn't there, where it has to be.
-    fn missing(&self) -> Option<Refusal> {
+    fn missing(&self) -> Option<SystemRefusal> {
         if self.is_strict {
             missing_refusal(self.rt, self.path)
         } else {
@@ -46,14 +46,14 @@ impl<R: Files<File = File>> JournalPath<'_, R> {
 
 impl<R: AllocGlobal + Files<File = File> + Clock + Eprint> JournalLock<FileDisk>
     for JournalPath<'_, R> {
-    fn take(&mut self) -> Result<FileDisk, Refusal> {
+    fn take(&mut self) -> Result<FileDisk, SystemRefusal> {
         if let Some(refusal) = self.missing() {
             return Err(refusal);
         }
         match FileDisk::at(self.rt, self.path) {
             Ok(disk) => Ok(disk),
             // It has to be there, and was taken away meanwhile.
-            Err(OpenFault::GivenUp) if self.is_strict => Err(Refusal::NoFile),
+            Err(OpenFault::GivenUp) if self.is_strict => Err(SystemRefusal::NoFile),
             Err(fault) => Err(journal_refusal(self.rt, self.path, fault)),
         }
     }

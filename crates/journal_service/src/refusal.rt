@@ -7,7 +7,7 @@ ghost use Rattle.journal_audit.specs.Told.{told_fault};
 ghost use Rattle.console.specs.declared.fault.TrialFault.TheVariants.{File as FileFault};
 
 use crate::standby::refused_journal;
-use console::{Detail, Refusal, open_refusal};
+use console::{Detail, SystemRefusal, open_refusal};
 use door_check::NoDoor;
 use journal_audit::CommandFault;
 use std::alloc::Global;
@@ -22,8 +22,8 @@ pub(crate) fn listen_fault(alloc: Global, address: &str, error: &io::Error) -> C
     ensures { (detail : Detail) × (result ≡ CommandFault.Listen detail) }
 {
     let refusal = match error.raw_os_error() {
-        Some(_) => Refusal::of(error),
-        None => Refusal::NoAddress,
+        Some(_) => SystemRefusal::of(error),
+        None => SystemRefusal::NoAddress,
     };
     CommandFault::Listen(Detail::of(alloc, address, &refusal))
 }
@@ -51,19 +51,19 @@ pub(crate) fn journal_fault<R: AllocGlobal + Files>(
 
 /// Why a journal's file isn't had, by what its opening found. An error without a number is for want
 /// of memory.
-pub(crate) fn journal_refusal<R: Files>(rt: &R, path: &str, fault: OpenFault) -> Refusal {
+pub(crate) fn journal_refusal<R: Files>(rt: &R, path: &str, fault: OpenFault) -> SystemRefusal {
     match fault {
         OpenFault::System(error) if error.raw_os_error().is_some() => {
             open_refusal(rt, path, &error)
         }
-        OpenFault::NotRegular => Refusal::Device,
-        OpenFault::Locked => Refusal::Locked,
-        OpenFault::System(_) | OpenFault::GivenUp | OpenFault::Replaced => Refusal::Passed,
+        OpenFault::NotRegular => SystemRefusal::Device,
+        OpenFault::Locked => SystemRefusal::Locked,
+        OpenFault::System(_) | OpenFault::GivenUp | OpenFault::Replaced => SystemRefusal::Passed,
     }
 }
 
 /// Why a journal's file isn't there to be opened, which is not made.
-pub(crate) fn missing_refusal<R: Files<File = File>>(rt: &R, path: &str) -> Option<Refusal> {
+pub(crate) fn missing_refusal<R: Files<File = File>>(rt: &R, path: &str) -> Option<SystemRefusal> {
     let opened = OpenOptions::new().read(true).write(true).open(rt, path);
     match opened {
         Ok(_) => None,

@@ -2,9 +2,9 @@
 
 ghost use Rattle.std.specs.Prelude.{◌≡◌, true, IfErr};
 ghost use Rattle.console.specs.declared.detail.Detail.{Detail};
-ghost use Rattle.console.specs.declared.refusal.Refusal.TheVariants.{Locked};
+ghost use Rattle.console.specs.declared.refusal.SystemRefusal.TheVariants.{Locked};
 
-use console::{Detail, Refusal, TrialFault};
+use console::{Detail, SystemRefusal, TrialFault};
 use journal_audit::CommandFault;
 use std::alloc::Global;
 use tap_disk::Disk;
@@ -13,7 +13,7 @@ use tap_disk::Disk;
 pub(crate) trait JournalLock<D: Disk> {
     /// Takes the file, and its lock with it, or says why it isn't had: `Locked` where another
     /// server or run has the lock.
-    fn take(&mut self) -> Result<D, Refusal>;
+    fn take(&mut self) -> Result<D, SystemRefusal>;
 
     /// Waits a while before the next try.
     fn wait(&mut self);
@@ -22,11 +22,11 @@ pub(crate) trait JournalLock<D: Disk> {
 /// Takes a journal's file. A server on standby waits as long as another one has it, and is never
 /// refused for that; any other is refused at once.
 ///
-/// A lock that was let go while it was looked at is one to try again.
+/// A file whose path was given up, or to another file, while it was opened is tried again too.
 pub(crate) fn take_journal<D: Disk, J: JournalLock<D>>(
     file: &mut J,
     is_standby: bool,
-) -> Result<D, Refusal>
+) -> Result<D, SystemRefusal>
     ensures patient { is_standby ≡ true → IfErr result (λ refusal. refusal ≡ Locked → ⊥) }
 {
     for _ in 0..u64::MAX {
@@ -40,18 +40,18 @@ pub(crate) fn take_journal<D: Disk, J: JournalLock<D>>(
         }
         file.wait();
     }
-    Err(Refusal::Passed)
+    Err(SystemRefusal::Passed)
 }
 
 /// Whether a file that was refused so is tried again.
-fn is_awaited(is_standby: bool, refusal: Refusal) -> bool
+fn is_awaited(is_standby: bool, refusal: SystemRefusal) -> bool
     ensures { is_standby ≡ true → refusal ≡ Locked → result ≡ true }
 {
-    is_standby && matches!(refusal, Refusal::Locked | Refusal::Passed)
+    is_standby && matches!(refusal, SystemRefusal::Locked | SystemRefusal::Passed)
 }
 
 /// The fault of a journal's file that isn't had, for this reason.
-pub(crate) fn refused_journal(alloc: Global, path: &str, refusal: Refusal) -> CommandFault
+pub(crate) fn refused_journal(alloc: Global, path: &str, refusal: SystemRefusal) -> CommandFault
     ensures { (detail : Detail) × (result ≡ CommandFault.Trial (TrialFault.File detail)) }
 {
     CommandFault::Trial(TrialFault::File(Detail::of(alloc, path, &refusal)))

@@ -14,7 +14,7 @@ use crate::commands::fault::CommandFault;
 use crate::commands::second_line::explained;
 use crate::commands::settled::settled_file;
 use command_line::Balances;
-use console::{Detail, Refusal, WholeFiles};
+use console::{Detail, SystemRefusal, WholeFiles};
 use reply_book::NameHashing;
 use std::alloc::Global;
 use std::io;
@@ -78,7 +78,7 @@ pub fn explained_balances<R: AllocGlobal + Eprint, F: WholeFiles, W: Write>(
 fn sums_fault(alloc: Global, error: &io::Error) -> CommandFault
     ensures { (detail : Detail) × (result ≡ Output detail) }
 {
-    let refusal = Refusal::of(error);
+    let refusal = SystemRefusal::of(error);
     CommandFault::Output(Detail::of(alloc, "standard error", &refusal))
 }
 

@@ -7,7 +7,7 @@ ghost use Rattle.journal_audit.specs.Told.{told_fault};
 ghost use Rattle.journal_audit.specs.declared.commands.output.TheConstants.{PIPE_STATUS};
 
 use crate::commands::fault::CommandFault;
-use console::{Detail, Refusal, TrialFault};
+use console::{Detail, SystemRefusal, TrialFault};
 use std::alloc::Global;
 use std::process::ExitCode;
 use text_io::RunFault;
@@ -22,7 +22,7 @@ pub const PIPE_STATUS: u8 = 141;
 /// fault's line. Any other fault stays as it is.
 pub fn ended_by(
     alloc: Global,
-    refusal: Option<Refusal>,
+    refusal: Option<SystemRefusal>,
     fault: CommandFault,
 ) -> Result<ExitCode, CommandFault>
     ensures quiet { IfOk result (λ status. (exit_status status ≡ PIPE_STATUS)
@@ -31,7 +31,7 @@ pub fn ended_by(
 {
     match fault {
         CommandFault::Trial(TrialFault::Run(RunFault::Write)) => match refusal {
-            Some(Refusal::Other(libc::EPIPE)) => Ok(ExitCode::from(PIPE_STATUS)),
+            Some(SystemRefusal::Other(libc::EPIPE)) => Ok(ExitCode::from(PIPE_STATUS)),
             Some(refusal) => Err(CommandFault::Output(Detail::of(
                 alloc,
                 "standard output",

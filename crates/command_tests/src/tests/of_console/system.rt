@@ -1,7 +1,7 @@
 //! The files of the system, and what is said of one that isn't had.
 use super::told;
 use crate::tests::assert_same_at;
-use console::{Detail, LimitedFiles, Refusal, SystemFiles, WholeFiles, open_refusal};
+use console::{Detail, LimitedFiles, SystemFiles, SystemRefusal, WholeFiles, open_refusal};
 use std::io;
 use std::test::Fail;
 
@@ -58,12 +58,12 @@ fn an_error_of_the_system_is_told_by_its_number(rt: HostRuntime) -> Result<(), F
         (5, "error 5 of the system"),
     ];
     for (number, wanted) in rows {
-        let refusal = Refusal::of(&io::Error::from_raw_os_error(number));
+        let refusal = SystemRefusal::of(&io::Error::from_raw_os_error(number));
         assert_same_at(&rt, refusal.to_string(rt.alloc())?.as_str(), wanted, wanted);
     }
     let error = io::Error::from_raw_os_error(2);
     let found = open_refusal(&rt, "/none/none", &error);
-    assert_same_at(&rt, found, Refusal::NoFolder, "/none/none");
+    assert_same_at(&rt, found, SystemRefusal::NoFolder, "/none/none");
     Ok(())
 }
 
