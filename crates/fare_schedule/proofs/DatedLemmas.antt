@@ -9,7 +9,7 @@ use Rattle.std.proofs.lemmas.Int.{ints}
 use Rattle.std.proofs.lemmas.List.{get_or_append_left}
 use Rattle.std.proofs.lemmas.List.Elements.{All-head, All-tail}
 use Rattle.std.proofs.lemmas.List.Quantifiers.{all_pairs_push}
-use Rattle.std.proofs.lemmas.Option.{none-some, slice_get-get_or}
+use Rattle.std.proofs.lemmas.Option.{slice_get-get_or}
 use Rattle.fare_table.specs.declared.fares.Fares.{Fares}
 use Rattle.fare_schedule.specs.InForce.{Revision}
 use Rattle.fare_schedule.specs.Places.{table_at}
@@ -92,24 +92,6 @@ place-last place (r ∷ ds) (suc m) d day within all none =
     ∙ place-last r.place ds m d day (omega (arith, within))
     (λ k d below. all (suc k) d (omega (arith, below)))
     (λ k d above below. none (suc k) d (omega (arith, above)) (omega (arith, below)))
-
--- where the newest counts, it is in force
-place-newest-of : (place : ℕ) (r : Dated) (ds : List Dated) (newest : Dated) (day : ℤ) →
-    slice_get (r ∷ ds) (length ds) ≡ Some newest → is_until day newest ≡ true →
-    place_by place (r ∷ ds) day ≡ newest.place
-place-newest-of place r [] newest day last counts =
-    let same : r ≡ newest = ap (λ o. unwrap_or o r) last in
-    ap (λ b. cond b r.place place) (subst (λ d. is_until day d ≡ true) (sym same) counts)
-    ∙ ap (λ (d : Dated). d.place) same
-place-newest-of place r (s ∷ ds) newest day last counts =
-    place-newest-of (cond (is_until day r) r.place place) s ds newest day last counts
-
-pub place-newest : (place : ℕ) (ds : List Dated) (newest : Dated) (day : ℤ) →
-    slice_get ds (length ds - 1) ≡ Some newest → is_until day newest ≡ true → place_by place ds day ≡ newest.place
-place-newest place [] newest day last counts = absurd (none-some newest last)
-place-newest place (r ∷ ds) newest day last counts =
-    let at : length (r ∷ ds) - 1 ≡ length ds = omega arith in
-    place-newest-of place r ds newest day (subst (λ n. slice_get (r ∷ ds) n ≡ Some newest) at last) counts
 
 later-placed : (b : Bool) (place other last : ℕ) → place ≤ last → other ≤ last → cond b other place ≤ last
 later-placed true place other last one two = two
