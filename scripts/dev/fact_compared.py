@@ -120,6 +120,15 @@ FACTS: dict[str, tuple[Place | Read, list[Place]]] = {
             Place("crates/proxy_header/src/fault.rt", r"longer than (?P<code>\d+) bytes"),
             Place("crates/table_check/src/standing.rt", r"a text of 1 to (?P<code>\d+) bytes"),
         ]),
+    "the most bytes of a station's name": (
+        Place("crates/fare_table/src/key.rt", r"const LONGEST_NAME: usize = (?P<code>\d+);"), [
+            Place("crates/table_check/src/standing.rt", r"a text of 1 to (?P<code>\d+) bytes"),
+        ]),
+    "how often a file is opened whose path is given to another file": (
+        Place("crates/tap_disk/src/file.rt", r"const OPENINGS: u32 = (?P<code>\d+);"), [
+            Place("docs/operate/DISK.md", r"and all of this again, at most (?P<code>\d+) times"),
+            Place("scripts/tests/test_take_over.py", r"^OPENINGS, PASSED = (?P<code>\d+),"),
+        ]),
     "Linux's number of ENFILE": (
         Place("crates/tcp_line/src/shortage.rt", r"const ENFILE: i32 = (?P<code>\d+);"), [
             Place("crates/console/src/refusal.rt", r"const ENFILE: i32 = (?P<code>\d+);"),

@@ -128,7 +128,7 @@ class Files(SendTest):
         self.file.rmdir()
         os.mkfifo(self.file)
         behind = self.assertFault(self.send(MORNING, free_address()), "fault file")
-        self.assertEqual(behind, [f"  {self.file}: a folder, a device or a pipe"])
+        self.assertEqual(behind, [f"  {self.file}: a device or a pipe"])
 
     def test_a_file_that_another_run_has_is_told(self) -> None:
         with subprocess.Popen(self.words("--new", free_address()), stdin=subprocess.PIPE) as other:

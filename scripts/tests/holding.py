@@ -1,4 +1,5 @@
-"""Delays a call of a program until a test lets it continue, so that the test can do something meanwhile."""
+"""Delays a call of a program until a test lets it continue, so that the test can do something meanwhile, or does it at each
+call."""
 import os
 import pathlib
 import subprocess
@@ -8,7 +9,8 @@ from typing import Any
 import harness
 
 # Holds up each call of the lock where HOLD_LOCK is set, and each read of a file from the byte HOLD_READ on: from when the
-# file HELD is made until the file GO is there.
+# file HELD is made until the file GO is there. Where REPLACED names a file, each call of the lock first puts a byte behind
+# those of HELD, and an empty file in place of the named one.
 LIBRARY = r"""
 extern long syscall(long, ...);
 extern char *getenv(const char *);
@@ -20,8 +22,17 @@ static void hold(void) {
     while (syscall(21, getenv("GO"), 0) != 0) syscall(35, pause, 0);
 }
 
+static void replace(const char *path) {
+    long count = syscall(257, -100, getenv("HELD"), 02101, 0600);
+    syscall(1, count, ".", 1L);
+    syscall(3, count);
+    syscall(87, path);
+    syscall(3, syscall(85, path, 0600));
+}
+
 int flock(int file, int how) {
     if (getenv("HOLD_LOCK")) hold();
+    if (getenv("REPLACED")) replace(getenv("REPLACED"));
     return (int)syscall(73, file, how);
 }
 
@@ -37,7 +48,7 @@ class Held:
     """A call that is held up, in a folder of the test's own."""
 
     def __init__(self, folder: pathlib.Path, **which: str) -> None:
-        """The call is the lock's with HOLD_LOCK="1", or a read from the byte HOLD_READ on."""
+        """The call is the lock's with HOLD_LOCK="1", or a read from the byte HOLD_READ on. With REPLACED=".." none is held up."""
         self.held, self.go = folder / "held", folder / "go"
         library = harness.library(folder, "hold", LIBRARY)
         self.env = dict(os.environ, LD_PRELOAD=str(library), HELD=str(self.held), GO=str(self.go), **which)

@@ -42,6 +42,9 @@ SOON, LOAD = 2.0, 0.8
 
 ROUNDS = int(os.environ.get("ROUNDS", 5))
 
+# How often a journal is opened at most whose path is given to another file each time, and what is printed of it then.
+OPENINGS, PASSED = 100, "removed or replaced while it was opened"
+
 
 class SendingGate(threading.Thread):
     """A gate with two addresses, which sends touches until it is stopped."""
@@ -229,24 +232,30 @@ class TakeOver(harness.ProgramTest):
         self.assertEqual(self.frames(), [OF_GATES.touch(1, 1).hex(), OF_GATES.touch(1, 2).hex()])
         self.assertEqual(old.read_bytes(), before)
 
-    def assert_not_made(self, why: str) -> None:
-        """A journal that is taken away before its lock isn't made, for this reason."""
+    def test_a_journal_that_is_replaced_before_each_lock_is_refused(self) -> None:
+        held = Held(self.journal.parent, REPLACED=str(self.journal))
+        server = self.launch(0, env=held.env)
+        self.assertEqual(server.communicate(timeout=TIME)[1], f"fault file\n  {self.journal}: {PASSED}\n")
+        self.assertEqual((server.returncode, held.held.stat().st_size, self.journal.read_bytes()), (1, OPENINGS, b""))
+
+    def assert_not_made(self) -> None:
+        """A journal that is taken away before its lock isn't made."""
         server, let_go = self.held()
         old = self.journal.with_name("old")
         os.rename(self.journal, old)
         before = old.read_bytes()
         let_go()
-        self.assertEqual(server.communicate(timeout=TIME)[1], f"fault file\n  {self.journal}: {why}\n")
+        self.assertEqual(server.communicate(timeout=TIME)[1], f"fault file\n  {self.journal}: {PASSED}\n")
         self.assertEqual(server.returncode, 1)
         self.assertFalse(self.journal.exists())
         self.assertEqual(old.read_bytes(), before)
 
     def test_a_journal_that_is_taken_away_before_its_lock_is_not_made(self) -> None:
-        self.assert_not_made("no such file")
+        self.assert_not_made()
 
     def test_a_server_that_may_make_its_journal_does_not_make_it_then(self) -> None:
         self.strict = []
-        self.assert_not_made("refused for a moment, or for want of memory")
+        self.assert_not_made()
 
     def test_without_standby_a_second_server_is_refused(self) -> None:
         self.assertEqual(self.start(0), self.listening(0))

@@ -43,7 +43,7 @@ pub enum SystemRefusal {
     /// The process, or the system, has as many open files as it may have (EMFILE, ENFILE).
     #[error("too many open files")]
     Descriptors,
-    /// The system has no memory for it (ENOMEM).
+    /// There is no memory for it (ENOMEM).
     #[error("no memory")]
     Memory,
     /// The disk has no room (ENOSPC).
@@ -58,8 +58,8 @@ pub enum SystemRefusal {
     /// It is no address with a port.
     #[error("not an address and a port")]
     NoAddress,
-    /// The path was given up, or to another file, while it was opened; or memory ran out.
-    #[error("refused for a moment, or for want of memory")]
+    /// The path was given up, or to another file, while it was opened.
+    #[error("removed or replaced while it was opened")]
     Passed,
     /// Anything else, by the system's number, and by 0 where there is none.
     #[error("error {0} of the system")]

@@ -9,7 +9,7 @@ use console::Detail;
 use door_file::{DoorFault, Key, MOST_BYTES, Place, Problem, Shape};
 use std::alloc::Global;
 use std::fmt;
-use table_check::{Allowed, Found, SecondLine, Sheet, Standing, Wanted};
+use table_check::{Allowed, Found, PlaceContent, SecondLine, Sheet, Wanted};
 
 /// What is allowed where a fault of a door is. It prints as it is told.
 #[derive(Clone, Copy, PartialEq, Eq)]
@@ -38,7 +38,7 @@ struct InRule<'a> {
     /// The number of the rule, from 1, and 0 for the file itself.
     rule: usize,
     /// What is there.
-    standing: Standing<'a>,
+    standing: PlaceContent<'a>,
 }
 
 /// Where a fault of a door is, what is there, and what is allowed.
@@ -88,7 +88,7 @@ fn spot_at<'a>(sheet: &'a Sheet<'_>, place: Place, problem: Problem) -> Spot<'a>
 
 /// The spot of a key that no door has: that of its rule.
 fn unknown_at<'a>(sheet: &'a Sheet<'_>, name: &'a str, rule: usize) -> Spot<'a> {
-    let standing = Standing::Unknown(name);
+    let standing = PlaceContent::Unknown(name);
     SecondLine {
         line: rule_line(sheet, rule),
         standing: InRule { rule, standing },
@@ -133,15 +133,15 @@ fn standing_at<'a>(
     wanted: Wanted,
     place: Place,
     problem: Problem,
-) -> Standing<'a> {
+) -> PlaceContent<'a> {
     let Place { rule, key } = place;
     match sheet.value_of(wanted) {
-        Some(value) if key == Key::Rule && rule > 0 => Standing::Value(Found { value }),
+        Some(value) if key == Key::Rule && rule > 0 => PlaceContent::Value(Found { value }),
         Some(value) => {
             let value = item_at_fault(key, problem, value);
-            Standing::Named(key.text(), Found { value })
+            PlaceContent::Named(key.text(), Found { value })
         }
-        None => Standing::Nothing(key.text()),
+        None => PlaceContent::Nothing(key.text()),
     }
 }
 

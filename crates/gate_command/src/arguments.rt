@@ -64,7 +64,7 @@ const ADDRESSES_HELP: &str =
 taken after a fault";
 
 /// The highest number of a gate.
-const GATE_LIMIT: u32 = 65_535;
+const GATE_LIMIT: u32 = u16::MAX as u32;
 /// The most tries of a request that can be asked for.
 const TRIES_LIMIT: u32 = 1_000_000;
 /// The most milliseconds that an answer can be waited for.

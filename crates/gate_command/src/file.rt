@@ -5,7 +5,7 @@ use crate::fault::{Detail, SendFault};
 use gate_client::{Client, ClientFault, FileFault};
 use std::alloc::Global;
 use std::fmt::Display;
-use std::fs::{self, File, OpenOptions};
+use std::fs::{self, File};
 use std::rt::Files;
 use tap_disk::{Disk, FileDisk, SystemError};
 use tap_journal::{HEADER_SIZE, MARK_CLOSED, NAME};
@@ -16,6 +16,9 @@ const UNFINISHED: u64 = HEADER_SIZE as u64 + 1;
 /// The client of the gate's file. With `--new` a file that isn't there, or is empty, is made; a
 /// whole one is opened, so that a service has the same arguments at each start; and one whose
 /// making was cut off is made anew.
+///
+/// `File` is why the system gives no file, and `GateFile` the first cause why this one isn't had. A
+/// file whose making failed is removed, if it can be.
 pub fn gate_file<R: AllocGlobal + Files<File = File>>(
     rt: &R,
     asked: &Arguments<'_>,
@@ -112,16 +115,12 @@ fn disk_at<R: AllocGlobal + Files<File = File>>(
     rt: &R,
     asked: &Arguments<'_>,
 ) -> Result<FileDisk, SendFault> {
-    if !asked.is_new {
-        let opened = OpenOptions::new()
-            .read(true)
-            .write(true)
-            .open(rt, asked.file);
-        if let Err(error) = opened {
-            return Err(SendFault::File(said(rt.alloc(), asked.file, &error)));
-        }
-    }
-    match FileDisk::at(rt, asked.file) {
+    let opened = if asked.is_new {
+        FileDisk::at(rt, asked.file)
+    } else {
+        FileDisk::existing(rt, asked.file)
+    };
+    match opened {
         Ok(disk) => Ok(disk),
         Err(fault) => Err(SendFault::File(said(rt.alloc(), asked.file, &fault))),
     }

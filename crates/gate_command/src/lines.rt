@@ -58,7 +58,12 @@ impl<R: Net, D: Disk> Drop for Run<'_, R, D> {
 }
 
 /// Settles the touch that waits, where one does, and then asks for, settles and tells what each
-/// line of the input asks for, unless what waits was to be sent alone, or to be given up.
+/// line of the input asks for, unless what waits was to be sent alone, or to be given up. It waits
+/// for the station, and between tries.
+///
+/// `Ask` comes where a touch can't be stored: it isn't sent. `Settle` comes after the last try, or at
+/// a fault that repeats don't change: the touch waits on in the gate's file. A line that asks for
+/// nothing is told on standard error, and the next one is read.
 pub fn send_lines<'a, R: AllocGlobal + Input + Print + Eprint + Net + Clock, D: Disk>(
     rt: &'a R,
     client: &'a mut Client<D>,

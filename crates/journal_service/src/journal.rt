@@ -3,7 +3,7 @@
 ghost use Rattle.std.specs.Prelude.{true, false};
 
 use crate::making::{Unprepared, prepare};
-use crate::refusal::{journal_refusal, missing_refusal};
+use crate::refusal::journal_refusal;
 use crate::standby::{JournalLock, refused_journal, take_journal};
 use command_line::Serve;
 use console::{Detail, SystemRefusal};
@@ -14,7 +14,7 @@ use std::fs::{self, File};
 use std::rt::Files;
 use std::thread;
 use std::time::{Clock, Duration};
-use tap_disk::{Disk, FileDisk, OpenFault, SystemError};
+use tap_disk::{Disk, FileDisk, SystemError};
 use tap_journal::{JournalFault, Refused};
 
 /// How many seconds a server on standby waits between two tries.
@@ -33,27 +33,16 @@ struct JournalPath<'a, R> {
     has_told: bool,
 }
 
-impl<R: Files<File = File>> JournalPath<'_, R> {
-    /// Why the file isn't there, where it has to be.
-    fn missing(&self) -> Option<SystemRefusal> {
-        if self.is_strict {
-            missing_refusal(self.rt, self.path)
-        } else {
-            None
-        }
-    }
-}
-
 impl<R: AllocGlobal + Files<File = File> + Clock + Eprint> JournalLock<FileDisk>
     for JournalPath<'_, R> {
     fn take(&mut self) -> Result<FileDisk, SystemRefusal> {
-        if let Some(refusal) = self.missing() {
-            return Err(refusal);
-        }
-        match FileDisk::at(self.rt, self.path) {
+        let opened = if self.is_strict {
+            FileDisk::existing(self.rt, self.path)
+        } else {
+            FileDisk::at(self.rt, self.path)
+        };
+        match opened {
             Ok(disk) => Ok(disk),
-            // It has to be there, and was taken away meanwhile.
-            Err(OpenFault::GivenUp) if self.is_strict => Err(SystemRefusal::NoFile),
             Err(fault) => Err(journal_refusal(self.rt, self.path, fault)),
         }
     }

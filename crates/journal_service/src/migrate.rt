@@ -28,10 +28,7 @@ use tap_disk::Disk;
 use tap_journal::{Journal, NotCarried};
 use text_io::RunFault;
 
-/// Carries a journal of the first format over to a new file, and writes how many touches it has.
-///
-/// The table is looked at first, then the old file, and only then the new file is made. The old
-/// file is opened for reading alone. Open slots behind its end are told of.
+/// As `explained_migrate`, without the second line of a fault.
 pub(crate) fn migrate_journal<
     R: AllocGlobal + Files + Eprint,
     F: WholeFiles,
@@ -65,7 +62,12 @@ pub(crate) fn migrate_journal<
     }
 }
 
-/// The same, with the second line of a fault.
+/// Carries a journal of the first format over to a new file, and writes how many touches it has.
+///
+/// The table is looked at first, then the old file, and only then the new file is made. The old
+/// file is opened for reading alone. Open slots behind its end are told of.
+///
+/// A fault of the journal in this file has its second line (`explained`).
 pub fn explained_migrate<
     R: AllocGlobal + Files + Eprint,
     F: WholeFiles,

@@ -11,10 +11,9 @@ use console::{Detail, SystemRefusal, open_refusal};
 use door_check::NoDoor;
 use journal_audit::CommandFault;
 use std::alloc::Global;
-use std::fs::{File, OpenOptions};
 use std::io;
 use std::rt::Files;
-use tap_disk::OpenFault;
+use tap_disk::DiskFault;
 
 /// The fault of an address that isn't listened on, by the error of the listening. One without a
 /// number is of the address's text.
@@ -42,7 +41,7 @@ pub(crate) fn door_fault(fault: NoDoor) -> CommandFault
 pub(crate) fn journal_fault<R: AllocGlobal + Files>(
     rt: &R,
     path: &str,
-    fault: OpenFault,
+    fault: DiskFault,
 ) -> CommandFault
     ensures { (detail : Detail) × (result ≡ CommandFault.Trial (FileFault detail)) }
 {
@@ -51,22 +50,14 @@ pub(crate) fn journal_fault<R: AllocGlobal + Files>(
 
 /// Why a journal's file isn't had, by what its opening found. An error without a number is for want
 /// of memory.
-pub(crate) fn journal_refusal<R: Files>(rt: &R, path: &str, fault: OpenFault) -> SystemRefusal {
+pub(crate) fn journal_refusal<R: Files>(rt: &R, path: &str, fault: DiskFault) -> SystemRefusal {
     match fault {
-        OpenFault::System(error) if error.raw_os_error().is_some() => {
+        DiskFault::System(error) if error.raw_os_error().is_some() => {
             open_refusal(rt, path, &error)
         }
-        OpenFault::NotRegular => SystemRefusal::Device,
-        OpenFault::Locked => SystemRefusal::Locked,
-        OpenFault::System(_) | OpenFault::GivenUp | OpenFault::Replaced => SystemRefusal::Passed,
-    }
-}
-
-/// Why a journal's file isn't there to be opened, which is not made.
-pub(crate) fn missing_refusal<R: Files<File = File>>(rt: &R, path: &str) -> Option<SystemRefusal> {
-    let opened = OpenOptions::new().read(true).write(true).open(rt, path);
-    match opened {
-        Ok(_) => None,
-        Err(error) => Some(open_refusal(rt, path, &error)),
+        DiskFault::System(_) => SystemRefusal::Memory,
+        DiskFault::NotRegular => SystemRefusal::Device,
+        DiskFault::Locked => SystemRefusal::Locked,
+        DiskFault::GivenUp | DiskFault::Replaced => SystemRefusal::Passed,
     }
 }

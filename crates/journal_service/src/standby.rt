@@ -20,9 +20,10 @@ pub(crate) trait JournalLock<D: Disk> {
 }
 
 /// Takes a journal's file. A server on standby waits as long as another one has it, and is never
-/// refused for that; any other is refused at once.
+/// refused for that; any other server is refused at once.
 ///
-/// A file whose path was given up, or to another file, while it was opened is tried again too.
+/// On standby `Passed` is tried again too: the path was given up, or to another file, while it was
+/// opened.
 pub(crate) fn take_journal<D: Disk, J: JournalLock<D>>(
     file: &mut J,
     is_standby: bool,

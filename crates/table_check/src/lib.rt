@@ -43,7 +43,7 @@ pub use notes::check_file;
 pub use places::Wanted;
 pub use prices::LowCap;
 pub use reading::Said;
-pub use second_line::{SecondLine, Standing};
+pub use second_line::{PlaceContent, SecondLine};
 pub use sheet::{Sheet, look_over};
 pub use standing::Allowed;
 pub use survey::Survey;

@@ -7,7 +7,7 @@ use std::fmt::Display;
 
 /// What is at a place of a document.
 #[derive(Clone, Copy)]
-pub enum Standing<'a> {
+pub enum PlaceContent<'a> {
     /// This value.
     Value(Found<'a>),
     /// This value, at a key that is printed with it.
@@ -30,13 +30,13 @@ pub struct SecondLine<S, A> {
     pub allowed: A,
 }
 
-impl<'a> Display for Standing<'a> {
+impl<'a> Display for PlaceContent<'a> {
     fn fmt<W: fmt::Write>(&self, f: &mut fmt::Formatter<W>) -> fmt::Result {
         match *self {
-            Standing::Value(found) => write!(f, "{found}"),
-            Standing::Named(key, found) => write!(f, "{key}: {found}"),
-            Standing::Nothing(key) => write!(f, "no {key}"),
-            Standing::Unknown(name) => {
+            PlaceContent::Value(found) => write!(f, "{found}"),
+            PlaceContent::Named(key, found) => write!(f, "{key}: {found}"),
+            PlaceContent::Nothing(key) => write!(f, "no {key}"),
+            PlaceContent::Unknown(name) => {
                 let name = name.escape_debug();
                 write!(f, "unknown key {name}")
             }

@@ -6,7 +6,7 @@ ghost use Rattle.table_check.specs.Allowed.{allowed_by, printed_allowed, list_te
 
 use crate::found::Found;
 use crate::places::Wanted;
-use crate::second_line::{SecondLine, Standing};
+use crate::second_line::{PlaceContent, SecondLine};
 use crate::sheet::Sheet;
 use fare_table::{Key, Shape, TableFault};
 use std::fmt;
@@ -58,7 +58,7 @@ struct Entry {
 }
 
 /// The place of a fault in a fare table.
-type TablePlace<'a> = SecondLine<Standing<'a>, Allowed>;
+type TablePlace<'a> = SecondLine<PlaceContent<'a>, Allowed>;
 
 /// Where this fault of a table stands. Of want of memory, and of a text that is no table, there is
 /// no place.
@@ -97,7 +97,7 @@ fn absent<'a>(sheet: &'a Sheet<'_>, key: Key, row: usize) -> TablePlace<'a> {
     };
     SecondLine {
         line,
-        standing: Standing::Nothing(entry.text),
+        standing: PlaceContent::Nothing(entry.text),
         allowed: entry.allowed,
     }
 }
@@ -105,8 +105,8 @@ fn absent<'a>(sheet: &'a Sheet<'_>, key: Key, row: usize) -> TablePlace<'a> {
 /// The place of a key or a row, and what stands there.
 fn place_at<'a>(sheet: &'a Sheet<'_>, wanted: Wanted, allowed: Allowed) -> TablePlace<'a> {
     let standing = match sheet.value_of(wanted) {
-        Some(value) => Standing::Value(Found { value }),
-        None => Standing::Nothing("value"),
+        Some(value) => PlaceContent::Value(Found { value }),
+        None => PlaceContent::Nothing("value"),
     };
     SecondLine {
         line: sheet.line_of(wanted),
@@ -149,7 +149,7 @@ fn repeated<'a>(sheet: &'a Sheet<'_>, list: Key, row: usize) -> Option<TablePlac
 fn no_single<'a>(low: u8, high: u8) -> TablePlace<'a> {
     SecondLine {
         line: None,
-        standing: Standing::Nothing(Key::Single.text()),
+        standing: PlaceContent::Nothing(Key::Single.text()),
         allowed: Allowed::Single(low, high),
     }
 }

@@ -31,7 +31,7 @@ fn a_word_that_is_no_text_is_a_wrong_command_line(rt: HostRuntime) -> Result<(),
 }
 
 #[test]
-fn the_first_word_is_the_programs(rt: HostRuntime) -> Result<(), Fail> {
+fn a_program_has_a_word_of_its_command_line(rt: HostRuntime) -> Result<(), Fail> {
     let mut command = Command::new(rt.alloc(), "bovtrila");
     let words = program_options::words_of(&rt, &mut command)?;
     assert_eq!(rt; words.is_empty(), false);

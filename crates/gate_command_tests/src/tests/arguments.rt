@@ -134,7 +134,7 @@ fn a_command_line_names_a_gate_a_file_and_addresses(rt: HostRuntime) {
 }
 
 #[test]
-fn the_words_begin_with_the_programs_name(rt: HostRuntime) -> Result<(), Fail> {
+fn a_command_line_has_a_word(rt: HostRuntime) -> Result<(), Fail> {
     let words = words_of(&rt)?;
     assert_same(&rt, words.is_empty(), false);
     Ok(())

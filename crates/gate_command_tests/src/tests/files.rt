@@ -159,12 +159,12 @@ fn what_is_no_file_is_refused(rt: HostRuntime) -> Result<(), Fail> {
         (
             "/dev/null",
             false,
-            "fault file  /dev/null: a folder, a device or a pipe",
+            "fault file  /dev/null: a device or a pipe",
         ),
         (
             "/dev/null",
             true,
-            "fault file  /dev/null: a folder, a device or a pipe",
+            "fault file  /dev/null: a device or a pipe",
         ),
         (
             "/dev",

@@ -22,14 +22,7 @@ use std::io::Write;
 use std::process::ExitCode;
 use table_check::tables_in;
 
-/// Writes what each issued card of the journal in a file holds, by the fare tables that are named,
-/// and tells standard error the sums. `Output` comes where it doesn't take them: then all rows were
-/// written.
-///
-/// The tables are looked at first, and then the journal's file. It is opened for reading alone, and
-/// isn't locked: a server may go on with it. It is read to its end before anything is written, and
-/// read again where it changed meanwhile and looks damaged. More open slots behind the journal's
-/// end than crashes leave are noted on standard error before the sums.
+/// As `explained_balances`, without the second line of a fault.
 pub(crate) fn tell_balances<R: AllocGlobal + Eprint, F: WholeFiles, W: Write>(
     rt: &R,
     hashing: NameHashing,
@@ -54,7 +47,16 @@ pub(crate) fn tell_balances<R: AllocGlobal + Eprint, F: WholeFiles, W: Write>(
     }
 }
 
-/// The same, with the second line of a fault.
+/// Writes what each issued card of the journal in a file holds, by the fare tables that are named,
+/// and tells standard error the sums. `Output` comes where it doesn't take them: then all rows were
+/// written.
+///
+/// The tables are looked at first, and then the journal's file. It is opened for reading alone, and
+/// isn't locked: a server may go on with it. It is read to its end before anything is written, and
+/// read again where it changed meanwhile and looks damaged. More open slots behind the journal's
+/// end than crashes leave are noted on standard error before the sums.
+///
+/// A fault of the journal in this file has its second line (`explained`).
 pub fn explained_balances<R: AllocGlobal + Eprint, F: WholeFiles, W: Write>(
     rt: &R,
     hashing: NameHashing,

@@ -27,13 +27,7 @@ use std::io::Write;
 use std::process::ExitCode;
 use table_check::tables_in;
 
-/// Writes what the journal in a file holds, by the fare tables that are named, where they are.
-/// Where a gate is named, it is that gate's file, and no table is looked at. The status is 3 where
-/// more is to be looked at.
-///
-/// The tables are looked at first, and then the journal's file. It is opened for reading alone, and
-/// isn't locked: a server or a gate may go on with it. It is read to its end before anything is
-/// written, and read again where it changed meanwhile and looks damaged.
+/// As `explained_verify`, without the second line of a fault.
 pub(crate) fn verify_journal<R: AllocGlobal + Eprint, F: WholeFiles, W: Write>(
     rt: &R,
     hashing: NameHashing,
@@ -52,7 +46,15 @@ pub(crate) fn verify_journal<R: AllocGlobal + Eprint, F: WholeFiles, W: Write>(
     }
 }
 
-/// The same, with the second line of a fault.
+/// Writes what the journal in a file holds, by the fare tables that are named, where they are.
+/// Where a gate is named, it is that gate's file, and no table is looked at. The status is 3 where
+/// more is to be looked at.
+///
+/// The tables are looked at first, and then the journal's file. It is opened for reading alone, and
+/// isn't locked: a server or a gate may go on with it. It is read to its end before anything is
+/// written, and read again where it changed meanwhile and looks damaged.
+///
+/// A fault of the journal in this file has its second line (`explained`).
 pub fn explained_verify<R: AllocGlobal + Eprint, F: WholeFiles, W: Write>(
     rt: &R,
     hashing: NameHashing,
