@@ -136,7 +136,7 @@ class Watch:
         self.folder, self.rest, self.again, self.dirty, self.gave_up = None, None, None, {}, False
         if call.answer is None or call.answer < 0:
             self.opened = None
-        for flag in ("O_RDWR", "O_CREAT", "O_NOCTTY", "O_CLOEXEC"):
+        for flag in ("O_RDWR", "O_NOCTTY", "O_CLOEXEC"):
             if flag not in call.given:
                 self.fault(f"opened without {flag}", call)
         if "O_TRUNC" in call.given:

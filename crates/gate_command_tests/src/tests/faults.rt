@@ -104,11 +104,17 @@ fn answer_to(alloc: Global, words: &[&str]) -> Option<SendFault> {
 fn help_and_the_version_are_printed_and_a_wrong_command_line_is_told(
     rt: HostRuntime,
 ) -> Result<(), Fail> {
+    let help = answer_to(rt.alloc(), &["gate_send", "--help"]).ok_or("a help")?;
+    let text = format!(in rt.alloc(); "{help}")?;
+    assert_same_at(&rt, text.contains("Usage: gate_send "), true, "a help");
+    assert_told(&rt, help, 0, text.as_str(), "");
     let version = answer_to(rt.alloc(), &["gate_send", "--version"]).ok_or("a version")?;
     let text = format!(in rt.alloc(); "gate_send {VERSION}\n")?;
     assert_told(&rt, version, 0, text.as_str(), "");
     let wrong = answer_to(rt.alloc(), &["gate_send", "--gate", "7"]).ok_or("a refusal")?;
     let told = format!(in rt.alloc(); "{wrong}")?;
+    let missing = "error: the following required arguments were not provided:\n  --file <FILE>\n";
+    assert_same_at(&rt, told.starts_with(missing), true, "a refusal");
     assert_told(&rt, wrong, 2, "", told.as_str());
     Ok(())
 }

@@ -105,6 +105,24 @@ fn a_touch_is_given_up_after_an_answer_alone(rt: HostRuntime) -> Result<(), Fail
 }
 
 #[test]
+fn a_touch_that_the_disk_does_not_give_up_is_told(rt: HostRuntime) -> Result<(), Fail> {
+    let alloc = rt.alloc();
+    let mut disk = MemoryDisk::new(alloc)?;
+    // The making makes seven calls, and the asking four.
+    disk.fail_at(12);
+    let mut client = Client::create(disk, GATE, 3).ok().ok_or("a client")?;
+    client
+        .ask(1, Act::Issue { moment: MOMENT })
+        .ok()
+        .ok_or("an issue")?;
+    let mut asked = asked_of_one(alloc)?;
+    asked.gives_up = true;
+    let answers = [Try::Gives(CONFLICT)];
+    let failed = ended(1, "", "fault ask 4 Device\n  gate7.touches\n");
+    assert_run(&rt, Some(client), &asked, script(&[], &answers), &failed)
+}
+
+#[test]
 fn a_run_without_a_touch_that_waits_resends_none(rt: HostRuntime) -> Result<(), Fail> {
     let alloc = rt.alloc();
     let none = Ended {
