@@ -48,7 +48,7 @@ class Held:
     """A call that is held up, in a folder of the test's own."""
 
     def __init__(self, folder: pathlib.Path, **which: str) -> None:
-        """The call is the lock's with HOLD_LOCK="1", or a read from the byte HOLD_READ on. With REPLACED=".." none is held up."""
+        """The call is the lock's with HOLD_LOCK="1", or a read from the byte HOLD_READ on. With REPLACED none is held up."""
         self.held, self.go = folder / "held", folder / "go"
         library = harness.library(folder, "hold", LIBRARY)
         self.env = dict(os.environ, LD_PRELOAD=str(library), HELD=str(self.held), GO=str(self.go), **which)

@@ -61,9 +61,9 @@ impl<R: Net, D: Disk> Drop for Run<'_, R, D> {
 /// line of the input asks for, unless what waits was to be sent alone, or to be given up. It waits
 /// for the station, and between tries.
 ///
-/// `Ask` comes where a touch can't be stored: it isn't sent. `Settle` comes after the last try, or at
-/// a fault that repeats don't change: the touch waits on in the gate's file. A line that asks for
-/// nothing is told on standard error, and the next one is read.
+/// `Ask` comes where a touch can't be stored: it isn't sent. `Settle` comes after the last try, or
+/// at a fault that repeats don't change: the touch waits on in the gate's file. A line that asks
+/// for nothing is told on standard error, and the next one is read.
 pub fn send_lines<'a, R: AllocGlobal + Input + Print + Eprint + Net + Clock, D: Disk>(
     rt: &'a R,
     client: &'a mut Client<D>,
