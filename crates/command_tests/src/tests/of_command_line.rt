@@ -57,7 +57,7 @@ fn assert_refused(rt: &impl Abort, alloc: Global, lines: &[&str]) {
 }
 
 /// The help of each command: how the command is used, and a part of its examples.
-const HELPS: [(&str, &str, &str); 8] = [
+const HELPS: [(&str, &str, &str); 7] = [
     (
         "replay",
         "[OPTIONS] --cards <N> [REVISION]...\n",
@@ -94,11 +94,6 @@ const HELPS: [(&str, &str, &str); 8] = [
         "balances",
         "[OPTIONS] --table <FILE> --journal <FILE> [REVISION]...\n",
         "  bovtrila balances --table fares.toml --journal station.journal --at 5000",
-    ),
-    (
-        "statement",
-        "[OPTIONS] --table <FILE> --journal <FILE> --card <N> [REVISION]...\n",
-        "  bovtrila statement --table fares.toml --journal station.journal --card 17",
     ),
 ];
 
